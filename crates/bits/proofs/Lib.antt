@@ -1,0 +1,12 @@
+-- The laws of words, masks and bytes that proofs cite, here and in the crates above.
+-- Assumes nothing.
+pub mod LittleEndian
+pub mod Counts
+pub mod Modulo
+pub mod Table
+pub mod Digits
+pub mod Order
+pub mod Shifts
+pub mod Agreement
+pub mod Congruence
+pub mod Growth

@@ -1,0 +1,82 @@
+-- Arithmetic modulo a power of two: cuts, sums, differences, products, and words moved out at either end.
+-- Assumes nothing.
+use mathlib.Core.Path.{_≡_, sym, ap, _∙_}
+use Prim.Native.Nat.{ℕ, _+_, _-_, _*_, _/_, _%_, _^_, _≤_, _<_}
+use native.Mathlib.Nat.{le-dest, add-comm, mul-comm, mod-lt, add-mod-mod, mod-add-mod, add-mul, mul-add, mul-assoc, div-add-mod', mul-add-mod-self-right, add-assoc, add-mod-right, lt-of-lt-of-le, div-eq-of-lt, mul-mod-left}
+use native.Mathlib.Omega.{arith}
+use lib.Pow.{pow-pos, pow-mono, mod-mod-pow, pow-add}
+use Rattle.bits.specs.Words.{differenceAt}
+
+-- the longer cut is as good as none
+pub cut-cut : (x : ℕ) {k w : ℕ} → k ≤ w → x % 2 ^ w % 2 ^ k ≡ x % 2 ^ k
+cut-cut x {k} {w} h =
+    let d = le-dest h in
+    ap (λ (m : ℕ). x % 2 ^ m % 2 ^ k) (sym (d .1) ∙ add-comm k (d .0)) ∙ mod-mod-pow x (d .0) k
+
+-- a product depends only on its first factor modulo m
+pub mul-mod-l : (x y m : ℕ) → x % m * y % m ≡ x * y % m
+mul-mod-l x y m =
+    sym (mul-add-mod-self-right (x / m * y) m (x % m * y))
+    ∙ ap (λ (n : ℕ). (n + x % m * y) % m) (mul-assoc (x / m) y m ∙ ap (λ (n : ℕ). x / m * n) (mul-comm y m) ∙ sym (mul-assoc (x / m) m y))
+    ∙ ap (λ (n : ℕ). n % m) (sym (add-mul (x / m * m) (x % m) y) ∙ ap (λ (n : ℕ). n * y) (div-add-mod' x m))
+
+-- and only on both factors modulo m
+pub mul-mod : (x y m : ℕ) → x * y % m ≡ x % m * (y % m) % m
+mul-mod x y m =
+    sym (mul-mod-l x y m) ∙ ap (λ (n : ℕ). n % m) (mul-comm (x % m) y)
+    ∙ sym (mul-mod-l y (x % m) m) ∙ ap (λ (n : ℕ). n % m) (mul-comm (y % m) (x % m))
+
+-- what y takes off x, y added to it gives back
+pub difference-add : (w x y : ℕ) → (differenceAt w x y + y) % 2 ^ w ≡ x % 2 ^ w
+difference-add w x y =
+    mod-add-mod (x + (2 ^ w - y % 2 ^ w)) (2 ^ w) y
+    ∙ sym (add-mod-mod (x + (2 ^ w - y % 2 ^ w)) y (2 ^ w))
+    ∙ ap (λ (n : ℕ). n % 2 ^ w) (add-assoc x (2 ^ w - y % 2 ^ w) (y % 2 ^ w) ∙ ap (λ (n : ℕ). x + n) gone)
+    ∙ add-mod-right x (2 ^ w)
+  where
+    gone : 2 ^ w - y % 2 ^ w + y % 2 ^ w ≡ 2 ^ w
+    gone = let h = mod-lt y (pow-pos w) in omega arith
+
+-- and nothing else does: a number that y added to gives x modulo 2^w is the difference modulo 2^w
+pub difference-only : (w x y r : ℕ) → (r + y) % 2 ^ w ≡ x % 2 ^ w → r % 2 ^ w ≡ differenceAt w x y
+difference-only w x y r e =
+    sym (add-mod-right r (2 ^ w))
+    ∙ ap (λ (n : ℕ). (r + n) % 2 ^ w) (sym gone)
+    ∙ ap (λ (n : ℕ). n % 2 ^ w) (sym (add-assoc r (y % 2 ^ w) (2 ^ w - y % 2 ^ w)))
+    ∙ sym (mod-add-mod (r + y % 2 ^ w) (2 ^ w) (2 ^ w - y % 2 ^ w))
+    ∙ ap (λ (n : ℕ). (n + (2 ^ w - y % 2 ^ w)) % 2 ^ w) (add-mod-mod r y (2 ^ w) ∙ e)
+    ∙ mod-add-mod x (2 ^ w) (2 ^ w - y % 2 ^ w)
+  where
+    gone : y % 2 ^ w + (2 ^ w - y % 2 ^ w) ≡ 2 ^ w
+    gone = let h = mod-lt y (pow-pos w) in omega arith
+
+-- a word is short of 2^k for every k from its length on
+pub shift-out : (x k : ℕ) → x < 2 ^ 64 → 64 ≤ k → x / 2 ^ k ≡ 0
+shift-out x k h g = div-eq-of-lt (lt-of-lt-of-le h (pow-mono g))
+
+-- a word moved up by 64 places or more leaves nothing behind
+pub shift-away : (x k : ℕ) → 64 ≤ k → x * 2 ^ k % 2 ^ 64 ≡ 0
+shift-away x k g =
+    let d = le-dest g in
+    ap (λ (n : ℕ). x * 2 ^ n % 2 ^ 64) (sym (d .1) ∙ add-comm 64 (d .0))
+    ∙ ap (λ (n : ℕ). x * n % 2 ^ 64) (pow-add 2 (d .0) 64)
+    ∙ ap (λ (n : ℕ). n % 2 ^ 64) (sym (mul-assoc x (2 ^ d .0) (2 ^ 64))) ∙ mul-mod-left (x * 2 ^ d .0) (2 ^ 64)
+
+-- one step of the product by doubling and halving: what is still to be added, and what has been, stay the same sum
+pub halve-step : (s a b m : ℕ) → ((s + a * (b % 2)) % m + (a + a) % m * (b / 2)) % m ≡ (s + a * b) % m
+halve-step s a b m =
+    mod-add-mod (s + a * (b % 2)) m ((a + a) % m * (b / 2))
+    ∙ sym (add-mod-mod (s + a * (b % 2)) ((a + a) % m * (b / 2)) m)
+    ∙ ap (λ (n : ℕ). (s + a * (b % 2) + n) % m) (mul-mod-l (a + a) (b / 2) m)
+    ∙ add-mod-mod (s + a * (b % 2)) ((a + a) * (b / 2)) m
+    ∙ ap (λ (n : ℕ). n % m) same
+  where
+    same : s + a * (b % 2) + (a + a) * (b / 2) ≡ s + a * b
+    same =
+        omega (
+          arith,
+          ap (λ (n : ℕ). a * n) (sym (div-add-mod' b 2)),
+          mul-add a (b / 2 * 2) (b % 2),
+          sym (mul-assoc a (b / 2) 2),
+          add-mul a a (b / 2),
+        )

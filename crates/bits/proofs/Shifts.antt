@@ -1,0 +1,68 @@
+-- Masks that are cut, moved up, moved down, or filled up to their highest one: their order and their widths.
+-- Assumes nothing.
+use mathlib.Core.Path.{_≡_, refl, sym, ap, ap₂, _∙_, subst, subst₂}
+use Prim.Native.Nat.{ℕ, _+_, _*_, _^_, _≤_, _<_}
+use native.Mathlib.Nat.{add-zero, le-trans, le-of-eq, lt-of-lt-of-le}
+use lib.Bits.{bitAnd, and-mask, and-block}
+use lib.Pow.{pow-pos, pow-mono, shl-lt, shl-exact, shr-lt}
+use Rattle.bits.specs.Masks.{Within}
+use Rattle.bits.specs.Words.{lowMask, cut, up, down, lengthIn, bitLength}
+use Rattle.bits.proofs.Counts.{lengthIn-holds, lengthIn-least}
+use Rattle.bits.proofs.Digits.{bit-down}
+use Rattle.bits.proofs.Order.{within-bit, within-by-bits, within-lt, meet-left, meet-mono, within-low, low-mono}
+
+-- ---- cut to a width
+
+pub cut-within : (w x : ℕ) → Within (cut w x) x
+cut-within w x = subst (λ (n : ℕ). Within n x) (and-mask x w) (meet-left x (lowMask w))
+
+pub cut-mono : {a b : ℕ} (w : ℕ) → Within a b → Within (cut w a) (cut w b)
+cut-mono {a} {b} w h = subst₂ Within (and-mask a w) (and-mask b w) (meet-mono (lowMask w) h)
+
+-- ---- moved up
+
+times-mono : {a b : ℕ} (k : ℕ) → Within a b → Within (a * 2 ^ k) (b * 2 ^ k)
+times-mono {a} {b} k h = record {
+  meet =
+      ap₂ bitAnd (sym (add-zero (a * 2 ^ k))) (sym (add-zero (b * 2 ^ k)))
+      ∙ and-block k a b 0 0 (pow-pos k) (pow-pos k)
+      ∙ add-zero (bitAnd a b * 2 ^ k)
+      ∙ ap (λ (n : ℕ). n * 2 ^ k) (h .meet);
+}
+
+pub up-mono : {a b : ℕ} (k : ℕ) → Within a b → Within (up k a) (up k b)
+up-mono k h = cut-mono 64 (times-mono k h)
+
+-- no bit leaves the word
+pub up-exact : {a : ℕ} (w k : ℕ) → a < 2 ^ w → w + k ≤ 64 → up k a ≡ a * 2 ^ k
+up-exact w k = shl-exact w k 64
+
+pub up-lt : {a : ℕ} (w k v : ℕ) → a < 2 ^ w → w + k ≤ v → v ≤ 64 → up k a < 2 ^ v
+up-lt w k v h g l = subst (λ (n : ℕ). n < 2 ^ v) (sym (up-exact w k h (le-trans g l))) (lt-of-lt-of-le (shl-lt w k h) (pow-mono g))
+
+-- ---- moved down
+
+pub down-mono : {a b : ℕ} (k : ℕ) → Within a b → Within (down k a) (down k b)
+down-mono {a} {b} k h = within-by-bits (λ i. le-trans (le-of-eq (bit-down a k i)) (le-trans (within-bit h (k + i)) (le-of-eq (sym (bit-down b k i)))))
+
+pub down-lt : {d : ℕ} (m k : ℕ) → d < 2 ^ (m + k) → down k d < 2 ^ m
+down-lt = shr-lt
+
+-- ---- up to the highest one
+
+pub length-zero : bitLength 0 ≡ 0
+unfolding lengthIn
+length-zero = refl
+
+pub length-le : {d : ℕ} (w : ℕ) → d < 2 ^ w → bitLength d ≤ w
+length-le {d} = lengthIn-least 64 d
+
+pub length-low : {d : ℕ} → d < 2 ^ 64 → Within d (lowMask (bitLength d))
+length-low {d} h = within-low (bitLength d) (lengthIn-holds 64 d h)
+
+pub length-mono : {a b : ℕ} → Within a b → b < 2 ^ 64 → bitLength a ≤ bitLength b
+length-mono {b = b} h g = length-le (bitLength b) (within-lt (bitLength b) h (lengthIn-holds 64 b g))
+
+-- the mask of all bits up to the highest one grows with the mask
+pub length-low-mono : {a b : ℕ} → Within a b → b < 2 ^ 64 → Within (lowMask (bitLength a)) (lowMask (bitLength b))
+length-low-mono h g = low-mono (length-mono h g)

@@ -1,0 +1,17 @@
+-- Masks over words: the bits of a word, a mask that lies within another, two words that agree on a mask.
+-- Assumes nothing.
+use mathlib.Core.Path.{_≡_}
+use Prim.Native.Nat.{ℕ, _/_, _%_, _^_}
+use lib.Bits.{bitAnd}
+
+-- Bit i of a word, counted from 0.
+abbrev pub bit : ℕ → ℕ → ℕ
+bit x i = x / 2 ^ i % 2
+
+-- Every one of the mask a is a one of the mask b.
+pub record Within (a b : ℕ) : Type 0 where
+  pub meet : bitAnd a b ≡ a
+
+-- The words x and y have equal bits wherever the mask m has a one.
+pub record Agree (m x y : ℕ) : Type 0 where
+  pub equal : bitAnd x m ≡ bitAnd y m

@@ -1,0 +1,62 @@
+-- Laws of the table of kinds: a number above the last is no kind, and the number 3 alone is an output's.
+-- Assumes nothing.
+use mathlib.Core.Path.{_≡_, refl, sym, ap, _∙_}
+use mathlib.Core.Bool.{Bool, true, false}
+use mathlib.Core.List.{List, [], _∷_, map}
+use Prim.Native.Nat.{ℕ, zero, suc, _+_, _≤_, _<_}
+use native.Mathlib.Omega.{arith}
+use borrow.Author.Tests.{ne-eqb}
+use lib.Dec.{eqb}
+use lib.ListN.{getD, drop, replicate, List·getD-eq-default, List·getD-map}
+use Rattle.netlist.specs.Check.{isOutput, operandsOf}
+use Rattle.netlist.specs.Kinds.{kinds, kindOf, usesOf}
+use Rattle.netlist.specs.declared.record.Fields.{Fields}
+use Rattle.netlist.specs.declared.record.Kind.{Kind}
+use Rattle.netlist.specs.declared.record.Kind.the-variants.{Input, Constant, Register, Output, Extract, Concat, And, Or, Xor, Mux, Add, Sub, Mul, Equal, Below}
+use Rattle.netlist.specs.declared.record.Uses.{Uses}
+
+-- no kind has a number above 14
+pub kindOf-beyond : (code : ℕ) (f : Fields) → 15 ≤ code → kindOf code f ≡ Input
+unfolding kindOf
+kindOf-beyond code f h = List·getD-eq-default (kinds f) Input h
+
+-- a list of one value gives it everywhere, with the same default
+everywhere : (m n : ℕ) (b : Bool) → getD (replicate m b) n b ≡ b
+everywhere zero n b = refl
+everywhere (suc m) zero b = refl
+everywhere (suc m) (suc n) b = everywhere m n b
+
+-- "names an output": the kinds after the output's number are no outputs, and the three before it are none either
+pub output-code : (code : ℕ) (f : Fields) → isOutput (usesOf (kindOf code f) .role) ≡ eqb code 3
+unfolding kindOf usesOf isOutput
+output-code zero f = refl
+output-code (suc zero) f = refl
+output-code (suc (suc zero)) f = refl
+output-code (suc (suc (suc zero))) f = refl
+output-code (suc (suc (suc (suc n)))) f =
+    sym (List·getD-map (λ (k : Kind). isOutput (usesOf k .role)) (drop 4 (kinds f)) n Input)
+    ∙ everywhere 11 n false ∙ sym (ne-eqb (suc (suc (suc (suc n)))) 3 (λ e. omega arith))
+
+-- the operand fields are the operands, and 0 where there is none
+pub record Padded (u : Uses) : Type 0 where
+  pub first : u .a ≡ getD (operandsOf u) 0 0
+  pub second : u .b ≡ getD (operandsOf u) 1 0
+  pub third : u .c ≡ getD (operandsOf u) 2 0
+
+pub padded : (k : Kind) → Padded (usesOf k)
+unfolding usesOf operandsOf
+padded Input = record { first = refl; second = refl; third = refl }
+padded (Constant k) = record { first = refl; second = refl; third = refl }
+padded (Register a k) = record { first = refl; second = refl; third = refl }
+padded (Output a) = record { first = refl; second = refl; third = refl }
+padded (Extract a k) = record { first = refl; second = refl; third = refl }
+padded (Concat a b) = record { first = refl; second = refl; third = refl }
+padded (And a b) = record { first = refl; second = refl; third = refl }
+padded (Or a b) = record { first = refl; second = refl; third = refl }
+padded (Xor a b) = record { first = refl; second = refl; third = refl }
+padded (Mux a b c) = record { first = refl; second = refl; third = refl }
+padded (Add a b) = record { first = refl; second = refl; third = refl }
+padded (Sub a b) = record { first = refl; second = refl; third = refl }
+padded (Mul a b) = record { first = refl; second = refl; third = refl }
+padded (Equal a b) = record { first = refl; second = refl; third = refl }
+padded (Below a b) = record { first = refl; second = refl; third = refl }

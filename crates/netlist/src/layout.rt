@@ -1,0 +1,92 @@
+// Where the header and the records stand in a file, and the reading of a record.
+// Each reader asks that what it reads lies within the file.
+use bits::bytes::read_16;
+use bits::bytes::read_64;
+use crate::record::Fields;
+use crate::record::Record;
+ghost use mathlib.Core.Path.{_≡_};
+ghost use Prim.Native.Nat.{_+_, _*_, _≤_, _<_, _^_};
+ghost use lib.ListN.{length};
+ghost use Rattle.netlist.specs.Layout.{recordStart, countOf, versionOf, codeAt, widthAt, fieldsAt, keepAt, recordAt};
+ghost use Rattle.netlist.specs.Check.{markRules};
+ghost use Rattle.netlist.specs.Rules.{testAll};
+
+// The sizes of the header and of a record, in bytes.
+const HEADER: usize = 8;
+const RECORD: usize = 24;
+
+// The length of a file of n records, which is also where record n would start.
+pub fn record_start(n: usize) -> usize
+    requires { ⌜ recordStart n < 2 ^ 64 ⌝ }
+    ensures { λ r. ⌜ r ≡ recordStart n ⌝ }
+{
+    HEADER + RECORD * n
+}
+
+pub fn version(file: &[u8]) -> u64
+    requires { ⌜ 8 ≤ length (now file) ⌝ }
+    ensures { λ r. ⌜ r ≡ versionOf (now (file .entry)) ⌝ }
+{
+    read_16(file, 3)
+}
+
+pub fn record_count(file: &[u8]) -> usize
+    requires { ⌜ 8 ≤ length (now file) ⌝ }
+    ensures count { λ r. ⌜ r ≡ countOf (now (file .entry)) ⌝ }
+    ensures bound { λ r. ⌜ r < 2 ^ 16 ⌝ }
+{
+    read_16(file, 6) as usize
+}
+
+// The kind's number of record i.
+pub fn code_at(file: &[u8], i: usize) -> u64
+    requires { ⌜ recordStart i + 24 ≤ length (now file) ⌝ }
+    ensures { λ r. ⌜ r ≡ codeAt (now (file .entry)) i ⌝ }
+{
+    let at = record_start(i);
+    file[at] as u64
+}
+
+pub fn width_at(file: &[u8], i: usize) -> u64
+    requires { ⌜ recordStart i + 24 ≤ length (now file) ⌝ }
+    ensures { λ r. ⌜ r ≡ widthAt (now (file .entry)) i ⌝ }
+{
+    let at = record_start(i) + 1;
+    file[at] as u64
+}
+
+pub fn fields_at(file: &[u8], i: usize) -> Fields
+    requires { ⌜ recordStart i + 24 ≤ length (now file) ⌝ }
+    ensures { λ r. ⌜ r ≡ fieldsAt (now (file .entry)) i ⌝ }
+{
+    let at = record_start(i);
+    let a = read_16(file, at + 2) as usize;
+    let b = read_16(file, at + 4) as usize;
+    let c = read_16(file, at + 6) as usize;
+    let k = read_64(file, at + 8);
+    Fields { a, b, c, k }
+}
+
+pub fn keep_at(file: &[u8], i: usize) -> u64
+    requires { ⌜ recordStart i + 24 ≤ length (now file) ⌝ }
+    ensures { λ r. ⌜ r ≡ keepAt (now (file .entry)) i ⌝ }
+{
+    read_64(file, record_start(i) + 16)
+}
+
+// Record i, as its kind, width and keep word.
+pub fn record_at(file: &[u8], i: usize) -> Record
+    requires { ⌜ recordStart i + 24 ≤ length (now file) ⌝ }
+    ensures { λ r. ⌜ r ≡ recordAt (now (file .entry)) i ⌝ }
+{
+    let fields = fields_at(file, i);
+    Record::new(code_at(file, i), width_at(file, i), fields, keep_at(file, i))
+}
+
+// The mark `PCN`, and the zero byte after the version.
+pub fn marked(file: &[u8]) -> bool
+    requires { ⌜ 8 ≤ length (now file) ⌝ }
+    ensures { λ r. ⌜ r ≡ testAll (markRules (now (file .entry))) ⌝ }
+{
+    file[0] == 0x50 && (file[1] == 0x43 && (file[2] == 0x4e && file[5] == 0))
+}

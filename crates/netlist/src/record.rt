@@ -1,0 +1,123 @@
+// A record of a netlist: its kind with the operands that the kind uses, and beside it the width and the keep word.
+// All that the code knows of a kind stands here and in `rules::widths_fit`.
+ghost use mathlib.Core.Path.{_≡_};
+ghost use Rattle.netlist.specs.Kinds.{kindOf, usesOf};
+
+// The four fields of a record in the file, used or not.
+pub struct Fields {
+    pub a: usize,
+    pub b: usize,
+    pub c: usize,
+    pub k: u64,
+}
+
+// A kind, with the fields that it uses.
+pub enum Kind {
+    Input,
+    Constant { k: u64 },
+    Register { a: usize, k: u64 },
+    Output { a: usize },
+    Extract { a: usize, k: u64 },
+    Concat { a: usize, b: usize },
+    And { a: usize, b: usize },
+    Or { a: usize, b: usize },
+    Xor { a: usize, b: usize },
+    Mux { a: usize, b: usize, c: usize },
+    Add { a: usize, b: usize },
+    Sub { a: usize, b: usize },
+    Mul { a: usize, b: usize },
+    Equal { a: usize, b: usize },
+    Below { a: usize, b: usize },
+}
+
+// The part that a record plays in a design.
+pub enum Role {
+    Input,
+    Register { a: usize, k: u64 },
+    Output,
+    Gate,
+}
+
+pub struct Record {
+    pub kind: Kind,
+    pub width: u64,
+    pub keep: u64,
+}
+
+// What a kind uses: the number of its operands, the four fields with 0 where it has no use for one, the k that has to fit
+// the width (0 where there is none), and its role.
+pub struct Uses {
+    pub count: usize,
+    pub a: usize,
+    pub b: usize,
+    pub c: usize,
+    pub k: u64,
+    pub word: u64,
+    pub role: Role,
+}
+
+impl Record {
+    // The limits of the format.
+    pub const MAX_WIDTH: u64 = 64;
+    pub const MAX_COUNT: usize = 2048;
+    pub const KINDS: u64 = 15;
+
+    // The record that a kind's number, a width, the four fields and a keep word make.
+    pub fn new(code: u64, width: u64, fields: Fields, keep: u64) -> Record
+        ensures { λ r. ⌜ r ≡ record { kind = kindOf code fields; width = width; keep = keep } ⌝ }
+    {
+        let kind = Kind::new(code, fields);
+        Record { kind, width, keep }
+    }
+}
+
+impl Kind {
+    // The kind with a number, carrying the fields that it uses.
+    pub fn new(code: u64, fields: Fields) -> Kind
+        ensures { λ r. ⌜ r ≡ kindOf code fields ⌝ }
+    {
+        let a = fields.a;
+        let b = fields.b;
+        let c = fields.c;
+        let k = fields.k;
+        match code {
+            1 => Kind::Constant { k },
+            2 => Kind::Register { a, k },
+            3 => Kind::Output { a },
+            4 => Kind::Extract { a, k },
+            5 => Kind::Concat { a, b },
+            6 => Kind::And { a, b },
+            7 => Kind::Or { a, b },
+            8 => Kind::Xor { a, b },
+            9 => Kind::Mux { a, b, c },
+            10 => Kind::Add { a, b },
+            11 => Kind::Sub { a, b },
+            12 => Kind::Mul { a, b },
+            13 => Kind::Equal { a, b },
+            14 => Kind::Below { a, b },
+            _ => Kind::Input,
+        }
+    }
+
+    pub fn uses(self) -> Uses
+        ensures { λ r. ⌜ r ≡ usesOf self ⌝ }
+    {
+        match self {
+            Kind::Input => Uses { count: 0, a: 0, b: 0, c: 0, k: 0, word: 0, role: Role::Input },
+            Kind::Constant { k } => Uses { count: 0, a: 0, b: 0, c: 0, k, word: k, role: Role::Gate },
+            Kind::Register { a, k } => Uses { count: 1, a, b: 0, c: 0, k, word: k, role: Role::Register { a, k } },
+            Kind::Output { a } => Uses { count: 1, a, b: 0, c: 0, k: 0, word: 0, role: Role::Output },
+            Kind::Extract { a, k } => Uses { count: 1, a, b: 0, c: 0, k, word: 0, role: Role::Gate },
+            Kind::Mux { a, b, c } => Uses { count: 3, a, b, c, k: 0, word: 0, role: Role::Gate },
+            Kind::Concat { a, b }
+            | Kind::And { a, b }
+            | Kind::Or { a, b }
+            | Kind::Xor { a, b }
+            | Kind::Add { a, b }
+            | Kind::Sub { a, b }
+            | Kind::Mul { a, b }
+            | Kind::Equal { a, b }
+            | Kind::Below { a, b } => Uses { count: 2, a, b, c: 0, k: 0, word: 0, role: Role::Gate },
+        }
+    }
+}

@@ -1,0 +1,94 @@
+/* The plain model's view of a netlist file: limits, kinds, and field readers.
+   Assumes file version 1 as in 01, and that callers stay inside the file. */
+
+#ifndef MODEL_RECORD_H
+#define MODEL_RECORD_H
+
+#include <stddef.h>
+#include <stdint.h>
+
+enum {
+    WIDTH_LIMIT = 64,
+    COUNT_LIMIT = 2048,
+    HEADER_BYTES = 8,
+    RECORD_BYTES = 24
+};
+
+enum kind {
+    KIND_INPUT,
+    KIND_CONSTANT,
+    KIND_REGISTER,
+    KIND_OUTPUT,
+    KIND_EXTRACT,
+    KIND_CONCAT,
+    KIND_AND,
+    KIND_OR,
+    KIND_XOR,
+    KIND_MUX,
+    KIND_ADD,
+    KIND_SUB,
+    KIND_MUL,
+    KIND_EQUAL,
+    KIND_BELOW,
+    KIND_COUNT
+};
+
+/* Operand numbers are held in 32 bits so that a wider file version fits. */
+struct record {
+    uint8_t kind;
+    uint8_t width;
+    uint32_t operand[3];
+    uint64_t k;
+    uint64_t keep;
+};
+
+static inline uint32_t read_16(const uint8_t *bytes)
+{
+    return (uint32_t)bytes[0] | (uint32_t)bytes[1] << 8;
+}
+
+static inline uint64_t read_64(const uint8_t *bytes)
+{
+    return (uint64_t)bytes[0] | (uint64_t)bytes[1] << 8
+         | (uint64_t)bytes[2] << 16 | (uint64_t)bytes[3] << 24
+         | (uint64_t)bytes[4] << 32 | (uint64_t)bytes[5] << 40
+         | (uint64_t)bytes[6] << 48 | (uint64_t)bytes[7] << 56;
+}
+
+static inline const uint8_t *record_at(const uint8_t *file, uint32_t number)
+{
+    return file + HEADER_BYTES + (size_t)RECORD_BYTES * number;
+}
+
+static inline uint8_t kind_at(const uint8_t *file, uint32_t number)
+{
+    return record_at(file, number)[0];
+}
+
+static inline uint8_t width_at(const uint8_t *file, uint32_t number)
+{
+    return record_at(file, number)[1];
+}
+
+static inline struct record read_record(const uint8_t *file, uint32_t number)
+{
+    const uint8_t *bytes = record_at(file, number);
+    struct record record;
+
+    record.kind = bytes[0];
+    record.width = bytes[1];
+    record.operand[0] = read_16(bytes + 2);
+    record.operand[1] = read_16(bytes + 4);
+    record.operand[2] = read_16(bytes + 6);
+    record.k = read_64(bytes + 8);
+    record.keep = read_64(bytes + 16);
+    return record;
+}
+
+/* All ones from bit 0 up to the width. A shift by 64 has no meaning in C. */
+static inline uint64_t width_mask(unsigned width)
+{
+    return width >= 64 ? ~(uint64_t)0 : ((uint64_t)1 << width) - 1;
+}
+
+#endif

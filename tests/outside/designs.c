@@ -1,0 +1,236 @@
+/* Makes random valid netlists: each record picks operands that already fit.
+   Assumes one design at a time, since the lists by width are static. */
+
+#include "designs.h"
+
+#include <string.h>
+
+/* The records that may be read so far, all together and by their width. */
+static struct {
+    uint32_t all_count;
+    uint32_t all[COUNT_LIMIT];
+    uint32_t count[WIDTH_LIMIT + 1];
+    uint32_t list[WIDTH_LIMIT + 1][COUNT_LIMIT];
+} readable;
+
+/* The widths that a design draws from. Few widths give records that share
+   operands; all 64 give every width. */
+struct widths {
+    uint32_t count;
+    uint8_t list[WIDTH_LIMIT];
+};
+
+enum keep_style { KEEP_FULL, KEEP_MIXED };
+
+uint32_t design_count(struct rng *rng, uint32_t least)
+{
+    switch (rng_below(rng, 8)) {
+    case 0:
+    case 1:
+    case 2:
+    case 3:
+        return rng_between(rng, least, 12);
+    case 4:
+    case 5:
+        return rng_between(rng, 13, 100);
+    case 6:
+        return rng_between(rng, 101, 600);
+    default:
+        if (rng_once_in(rng, 8))
+            return COUNT_LIMIT;
+        return rng_between(rng, 601, COUNT_LIMIT);
+    }
+}
+
+uint64_t design_word(struct rng *rng, unsigned width)
+{
+    switch (rng_below(rng, 6)) {
+    case 0:
+        return 0;
+    case 1:
+        return width_mask(width);
+    case 2:
+        return (uint64_t)1 << (width - 1);
+    case 3:
+        return (uint64_t)1 << rng_below(rng, width);
+    default:
+        return rng_word(rng) & width_mask(width);
+    }
+}
+
+static struct widths pick_widths(struct rng *rng)
+{
+    struct widths widths;
+    uint32_t i;
+
+    if (rng_once_in(rng, 2)) {
+        widths.count = WIDTH_LIMIT;
+        for (i = 0; i < WIDTH_LIMIT; i++)
+            widths.list[i] = (uint8_t)(i + 1);
+        return widths;
+    }
+    widths.count = rng_between(rng, 1, 4);
+    for (i = 0; i < widths.count; i++)
+        widths.list[i] = (uint8_t)rng_between(rng, 1, WIDTH_LIMIT);
+    return widths;
+}
+
+static uint8_t any_width(struct rng *rng, const struct widths *widths)
+{
+    return widths->list[rng_below(rng, widths->count)];
+}
+
+static uint32_t any_readable(struct rng *rng)
+{
+    return readable.all[rng_below(rng, readable.all_count)];
+}
+
+static uint32_t readable_of(struct rng *rng, uint8_t width)
+{
+    return readable.list[width][rng_below(rng, readable.count[width])];
+}
+
+static void add_readable(uint32_t number, uint8_t width)
+{
+    readable.all[readable.all_count++] = number;
+    readable.list[width][readable.count[width]++] = number;
+}
+
+/* An input, a constant or a register, none of which needs a record before
+   it. The operand of a register is chosen once all records are there. */
+static void make_source(struct rng *rng, struct netlist *net, uint8_t kind,
+                        uint8_t width)
+{
+    uint64_t k = kind_uses(kind, 'k') ? design_word(rng, width) : 0;
+
+    netlist_add(net, kind, width, 0, 0, 0, k);
+}
+
+static void make_extract(struct rng *rng, struct netlist *net)
+{
+    uint32_t a = any_readable(rng);
+    unsigned from = net->records[a].width;
+    unsigned width = rng_between(rng, 1, from);
+    unsigned k = rng_between(rng, 0, from - width);
+
+    if (rng_once_in(rng, 4))
+        k = from - width;
+    netlist_add(net, KIND_EXTRACT, (uint8_t)width, a, 0, 0, k);
+}
+
+/* False when no two narrow records are found in a few tries. */
+static int make_concat(struct rng *rng, struct netlist *net)
+{
+    int tries;
+
+    for (tries = 0; tries < 4; tries++) {
+        uint32_t a = any_readable(rng);
+        uint32_t b = any_readable(rng);
+        unsigned width = net->records[a].width + net->records[b].width;
+
+        if (width <= WIDTH_LIMIT) {
+            netlist_add(net, KIND_CONCAT, (uint8_t)width, a, b, 0, 0);
+            return 1;
+        }
+    }
+    return 0;
+}
+
+static int make_mux(struct rng *rng, struct netlist *net)
+{
+    uint32_t a, b, c;
+    uint8_t width;
+
+    if (readable.count[1] == 0)
+        return 0;
+    a = readable_of(rng, 1);
+    b = any_readable(rng);
+    width = net->records[b].width;
+    c = readable_of(rng, width);
+    netlist_add(net, KIND_MUX, width, a, b, c, 0);
+    return 1;
+}
+
+static void make_pair(struct rng *rng, struct netlist *net, uint8_t kind)
+{
+    uint32_t a = any_readable(rng);
+    uint8_t width = net->records[a].width;
+    uint32_t b = readable_of(rng, width);
+
+    if (kind == KIND_EQUAL || kind == KIND_BELOW)
+        width = 1;
+    netlist_add(net, kind, width, a, b, 0, 0);
+}
+
+/* Adds a record of this kind that reads earlier ones; false if it cannot. */
+static int make_reader(struct rng *rng, struct netlist *net, uint8_t kind)
+{
+    uint32_t a;
+
+    if (readable.all_count == 0)
+        return 0;
+    switch (kind) {
+    case KIND_OUTPUT:
+        a = any_readable(rng);
+        netlist_add(net, kind, net->records[a].width, a, 0, 0, 0);
+        return 1;
+    case KIND_EXTRACT:
+        make_extract(rng, net);
+        return 1;
+    case KIND_CONCAT:
+        return make_concat(rng, net);
+    case KIND_MUX:
+        return make_mux(rng, net);
+    default:
+        make_pair(rng, net, kind);
+        return 1;
+    }
+}
+
+static void make_record(struct rng *rng, struct netlist *net,
+                        const struct widths *widths, enum keep_style style)
+{
+    uint8_t kind = (uint8_t)rng_below(rng, KIND_COUNT);
+    struct record *record = &net->records[net->count];
+    uint32_t number = net->count;
+
+    if (kind <= KIND_REGISTER)
+        make_source(rng, net, kind, any_width(rng, widths));
+    else if (!make_reader(rng, net, kind))
+        make_source(rng, net, (uint8_t)rng_below(rng, 3),
+                    any_width(rng, widths));
+    if (style == KEEP_MIXED)
+        record->keep = design_word(rng, record->width);
+    if (record->kind != KIND_OUTPUT)
+        add_readable(number, record->width);
+}
+
+/* A register reads itself, an earlier or a later record of its width. */
+static void connect_registers(struct rng *rng, struct netlist *net)
+{
+    uint32_t i;
+
+    for (i = 0; i < net->count; i++) {
+        struct record *record = &net->records[i];
+
+        if (record->kind != KIND_REGISTER)
+            continue;
+        if (rng_once_in(rng, 8))
+            record->operand[0] = i;
+        else
+            record->operand[0] = readable_of(rng, record->width);
+    }
+}
+
+void design_make(struct rng *rng, struct netlist *net, uint32_t count)
+{
+    struct widths widths = pick_widths(rng);
+    enum keep_style style = rng_once_in(rng, 3) ? KEEP_FULL : KEEP_MIXED;
+
+    readable.all_count = 0;
+    memset(readable.count, 0, sizeof readable.count);
+    netlist_clear(net);
+    while (net->count < count)
+        make_record(rng, net, &widths, style);
+    connect_registers(rng, net);
+}
