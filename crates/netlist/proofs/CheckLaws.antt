@@ -11,7 +11,7 @@ use Rattle.netlist.specs.Check.{firstBroken, refuseAt, checkFrom, record
 use Rattle.netlist.specs.Kinds.{usesOf, widthRules}
 use Rattle.netlist.specs.Layout.{designOf, recordAt, countOf, widthAt, fieldsAt}
 use Rattle.netlist.specs.Rules.{Rule, below, testAll, AllHold}
-use Rattle.netlist.specs.declared.check.Refusal.{Refusal}
+use Rattle.netlist.specs.declared.refusal.Refusal.{Refusal}
 use Rattle.netlist.specs.declared.check.Verdict.{Verdict}
 use Rattle.netlist.specs.declared.check.Verdict.the-variants.{Pass, Fail}
 use Rattle.netlist.specs.declared.record.Record.{Record}

@@ -1,5 +1,6 @@
 -- The laws of the netlist's definitions that proofs cite, here and in the crates above.
 -- Assumes nothing.
+pub mod Acceptance
 pub mod CheckLaws
 pub mod KindLaws
 pub mod OperandLaws

@@ -9,8 +9,8 @@ use Rattle.netlist.specs.Layout.{Design, designOf, headerSize, recordSiz
 use Rattle.netlist.specs.Rules.{Rule, equal, below, atMost, isNot, testAll}
 use Rattle.netlist.specs.declared.check.Checked.{Checked}
 use Rattle.netlist.specs.declared.check.Checked.the-variants.{Accepted, Refused}
-use Rattle.netlist.specs.declared.check.Refusal.{Refusal}
-use Rattle.netlist.specs.declared.check.Refusal.the-variants.{TooShort, BadMark, BadVersion, TooManyRecords, BadLength, BadKind, BadWidth, BadOperand, BadWidthRule, UnusedBit}
+use Rattle.netlist.specs.declared.refusal.Refusal.{Refusal}
+use Rattle.netlist.specs.declared.refusal.Refusal.the-variants.{TooShort, BadMark, BadVersion, TooManyRecords, BadLength, BadKind, BadWidth, BadOperand, BadWidthRule, UnusedBit}
 use Rattle.netlist.specs.declared.check.Verdict.{Verdict}
 use Rattle.netlist.specs.declared.check.Verdict.the-variants.{Pass, Fail}
 use Rattle.netlist.specs.declared.record.Fields.{Fields}

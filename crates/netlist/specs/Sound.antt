@@ -1,13 +1,12 @@
--- What acceptance says of a design, and the file that a design makes.
+-- What acceptance says of a file and of its design.
 -- Assumes nothing.
-use mathlib.Core.List.{List, [], _∷_, _++_}
-use Prim.Native.Nat.{ℕ, zero, suc, _≤_, _<_}
-use Rattle.bits.specs.Bytes.{bytes}
+use mathlib.Core.Path.{_≡_}
+use mathlib.Core.List.{List}
+use Prim.Native.Nat.{ℕ, _≤_, _<_}
+use lib.ListN.{length}
 use Rattle.netlist.specs.Check.{maxCount, widthRange, operandRules, widthRulesAt, wordRules}
-use Rattle.netlist.specs.Kinds.{codeOf, usesOf}
-use Rattle.netlist.specs.Layout.{Design}
+use Rattle.netlist.specs.Layout.{Design, designOf, countOf, recordStart}
 use Rattle.netlist.specs.Rules.{AllHold}
-use Rattle.netlist.specs.declared.record.Record.{Record}
 
 -- Record i keeps the rules 7 to 10: its width lies within the limits, its operands are in range and no outputs, its kind's
 -- width rule holds, and its keep word and the k of a constant or register lie within its width.
@@ -22,17 +21,13 @@ pub record Sound (d : Design) : Type 0 where
   pub few : d .count ≤ maxCount
   pub each : (i : ℕ) → i < d .count → SoundRecord d i
 
--- The 24 bytes of a record, with 0 in the fields that its kind does not use.
-unfoldable pub encodeRecord : Record → List ℕ
-encodeRecord r =
-    let u = usesOf (r .kind) in
-    codeOf (r .kind) ∷ r .width ∷ bytes 2 (u .a) ++ bytes 2 (u .b) ++ bytes 2 (u .c) ++ bytes 8 (u .k) ++ bytes 8 (r .keep)
+-- What acceptance with n records says of a file: its count and length, and that its design is sound.
+pub record Acceptance (file : List ℕ) (n : ℕ) : Type 0 where
+  pub count : n ≡ countOf file
+  pub size : length file ≡ recordStart n
+  pub sound : Sound (designOf file)
 
--- The records from i on, `left` of them.
-unfoldable pub encodeFrom : Design → ℕ → ℕ → List ℕ
-encodeFrom d zero i = []
-encodeFrom d (suc left) i = encodeRecord (d .at i) ++ encodeFrom d left (suc i)
-
--- The file that a design makes: mark, version 1, a zero byte, the count, the records.
-unfoldable pub encode : Design → List ℕ
-encode d = (0x50 ∷ 0x43 ∷ 0x4e ∷ bytes 2 1) ++ (0 ∷ bytes 2 (d .count)) ++ encodeFrom d (d .count) 0
+-- Two designs have the same count, and the same record at each number below it.
+pub record SameDesign (d e : Design) : Type 0 where
+  pub count : d .count ≡ e .count
+  pub each : (i : ℕ) → i < d .count → d .at i ≡ e .at i

@@ -1,26 +1,13 @@
 // The check of a file: the refusals in their order, and the operation.
 use crate::layout::*;
 use crate::record::Record;
+use crate::refusal::Refusal;
 use crate::rules::*;
 ghost use mathlib.Core.Path.{_≡_};
 ghost use Prim.Native.Nat.{_+_, _*_, _≤_, _<_};
 ghost use lib.ListN.{length};
 ghost use Rattle.netlist.specs.Check.{headerRules, recordRules, firstBroken, checkFrom, checkOf};
 ghost use Rattle.netlist.specs.Layout.{recordStart, countOf};
-
-// Why a file is refused; the definition `numberOf` gives each its number.
-pub enum Refusal {
-    TooShort,
-    BadMark,
-    BadVersion,
-    TooManyRecords,
-    BadLength,
-    BadKind,
-    BadWidth,
-    BadOperand,
-    BadWidthRule,
-    UnusedBit,
-}
 
 // What the rules say of a header or of a record.
 pub enum Verdict {

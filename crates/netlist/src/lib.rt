@@ -3,4 +3,5 @@
 pub mod check;
 pub mod layout;
 pub mod record;
+pub mod refusal;
 pub mod rules;

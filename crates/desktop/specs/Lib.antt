@@ -1,0 +1,3 @@
+-- What the functions of the desktop answer.
+-- Assumes nothing.
+pub mod Answer

@@ -1,0 +1,38 @@
+// Why a file is refused, and the number of each refusal.
+// Nothing is asked of a caller.
+ghost use mathlib.Core.Path.{_≡_};
+ghost use Prim.Native.Nat.{_<_};
+ghost use Rattle.netlist.specs.Check.{numberOf};
+
+pub enum Refusal {
+    TooShort,
+    BadMark,
+    BadVersion,
+    TooManyRecords,
+    BadLength,
+    BadKind,
+    BadWidth,
+    BadOperand,
+    BadWidthRule,
+    UnusedBit,
+}
+
+impl Refusal {
+    pub fn number(self) -> u64
+        ensures number { λ r. ⌜ r ≡ numberOf self ⌝ }
+        ensures bound { λ r. ⌜ r < 256 ⌝ }
+    {
+        match self {
+            Refusal::TooShort => 1,
+            Refusal::BadMark => 2,
+            Refusal::BadVersion => 3,
+            Refusal::TooManyRecords => 4,
+            Refusal::BadLength => 5,
+            Refusal::BadKind => 6,
+            Refusal::BadWidth => 7,
+            Refusal::BadOperand => 8,
+            Refusal::BadWidthRule => 9,
+            Refusal::UnusedBit => 10,
+        }
+    }
+}
