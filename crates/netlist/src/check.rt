@@ -30,11 +30,11 @@ fn check_record(file: &[u8], n: usize, i: usize) -> Verdict
     }
     let record = record_at(file, i);
     let kind = record.kind;
+    let uses = kind.uses();
     let w = record.width;
     if !width_in_range(w) {
         return Verdict::Fail(Refusal::BadWidth);
     }
-    let uses = kind.uses();
     let role = uses.role;
     if !operands_fit(file, operand_limit(role, n, i), uses) {
         return Verdict::Fail(Refusal::BadOperand);

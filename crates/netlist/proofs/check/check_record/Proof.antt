@@ -26,10 +26,10 @@ use Rattle.netlist.proofs.check.check_record.Tie as tie
 
 -- where the function began, from the place after each test that passed
 abbrev from-2 : tie.Else2 → tie.Start
-from-2 c = c .before .before .before .before .before .before
+from-2 c = c .before .before .before .before .before .before .before
 
 abbrev from-3 : tie.Else3 → tie.Start
-from-3 c = from-2 (c .before .before .before .before)
+from-3 c = from-2 (c .before .before .before)
 
 abbrev from-4 : tie.Else4 → tie.Start
 from-4 c = from-3 (c .before .before .before .before .before)
@@ -43,68 +43,71 @@ file-of s = now (s .args .file)
 abbrev design-of : tie.Start → Design
 design-of s = designOf (file-of s)
 
--- the record as read, from the second test on, and what its kind uses, from the third on
+-- the record as read, and what its kind uses, from the second test on
 abbrev record-of : tie.Else2 → Record
-record-of c = c .before .before .record-at .result
+record-of c = c .before .before .before .record-at .result
 
 record-read : (c : tie.Else2) → record-of c ≡ recordAt (file-of (from-2 c)) (from-2 c .args .i)
-record-read c = c .before .before .record-at .ensures
+record-read c = c .before .before .before .record-at .ensures
+
+abbrev used-of : tie.Else2 → Uses
+used-of c = c .before .before .uses .result
+
+used-read : (c : tie.Else2) → used-of c ≡ usesOf (record-of c .kind)
+used-read c = c .before .before .uses .ensures
 
 -- the tests, as tests of the rules
-width-test : (c : tie.After-width-in-range) → c .width-in-range .result ≡ testAll (widthRange (design-of (c .before .before .before .before .before) .at (c .before .before .before .before .before .args .i) .width))
+width-test : (c : tie.After-width-in-range) → c .width-in-range .result ≡ testAll (widthRange (design-of (c .before .before .before .before .before .before) .at (c .before .before .before .before .before .before .args .i) .width))
 unfolding designOf
-width-test c = c .width-in-range .ensures ∙ ap (λ (r : Record). testAll (widthRange (r .width))) (c .before .record-at .ensures)
+width-test c = c .width-in-range .ensures ∙ ap (λ (r : Record). testAll (widthRange (r .width))) (c .before .before .record-at .ensures)
 
-operand-test : (c : tie.After-operands-fit) → c .operands-fit .result ≡ testAll (operandRules (design-of (from-2 (c .before .before .before))) (from-2 (c .before .before .before) .args .i))
+operand-test : (c : tie.After-operands-fit) → c .operands-fit .result ≡ testAll (operandRules (design-of (from-2 (c .before .before))) (from-2 (c .before .before) .args .i))
 operand-test c =
-    let e = c .before .before .before in
+    let e = c .before .before in
     let s = from-2 e in
     c .operands-fit .ensures
     ∙ ap testAll
-        (operand-rules (file-of s) (s .args .i) (record-of e) (c .before .before .uses .result) (record-read e) (c .before .before .uses .ensures) (s .args .n)
-        (c .before .operand-limit .result) (s .pre .0) (c .before .operand-limit .ensures))
+        (operand-rules (file-of s) (s .args .i) (record-of e) (used-of e) (record-read e) (used-read e) (s .args .n) (c .before .operand-limit .result)
+        (s .pre .0) (c .before .operand-limit .ensures))
 
 widths-test : (c : tie.After-widths-fit) → c .widths-fit .result ≡ testAll (widthRulesAt (design-of (from-3 (c .before .before .before .before))) (from-3 (c .before .before .before .before) .args .i))
 widths-test c =
-    let e = c .before .before .before .before in
-    let s = from-3 e in
-    let used = e .before .before .before .uses in
+    let e = c .before .before .before .before .before .before .before in
+    let s = from-2 e in
     c .widths-fit .ensures
     ∙ ap testAll
-        (width-rules (file-of s) (s .args .i) (record-of (e .before .before .before .before)) (used .result) (record-read (e .before .before .before .before))
-        (used .ensures) (c .before .before .before .width-at .result) (c .before .before .width-at2 .result) (c .before .width-at3 .result)
-        (c .before .before .before .width-at .ensures) (c .before .before .width-at2 .ensures) (c .before .width-at3 .ensures))
+        (width-rules (file-of s) (s .args .i) (record-of e) (used-of e) (record-read e) (used-read e) (c .before .before .before .width-at .result)
+        (c .before .before .width-at2 .result) (c .before .width-at3 .result) (c .before .before .before .width-at .ensures)
+        (c .before .before .width-at2 .ensures) (c .before .width-at3 .ensures))
 
 fields-test : (c : tie.After-fields-fit) → c .fields-fit .result ≡ testAll (fieldRules (fieldsAt (file-of (from-4 (c .before .before))) (from-4 (c .before .before) .args .i)) (usesOf (design-of (from-4 (c .before .before)) .at (from-4 (c .before .before) .args .i) .kind)))
 unfolding designOf
 fields-test c =
-    let e = c .before .before .before .before .before .before .before in
+    let e = c .before .before .before .before .before .before .before .before .before .before in
     c .fields-fit .ensures
     ∙ ap₂ (λ (f : Fields) (u : Uses). testAll (fieldRules f u)) (c .before .fields-at .ensures)
-        (e .before .before .before .uses .ensures ∙ ap (λ (r : Record). usesOf (r .kind)) (record-read (e .before .before .before .before)))
+        (used-read e ∙ ap (λ (r : Record). usesOf (r .kind)) (record-read e))
 
 words-test : (c : tie.After-words-fit) → c .words-fit .result ≡ testAll (wordRules (design-of (from-5 (c .before)) .at (from-5 (c .before) .args .i)))
 words-test c =
-    let e = c .before .before .before .before .before .before .before .before .before in
-    let s = from-3 e in
-    c .words-fit .ensures
-    ∙ ap testAll
-        (word-rules (file-of s) (s .args .i) (record-of (e .before .before .before .before)) (e .before .before .before .uses .result)
-        (record-read (e .before .before .before .before)) (e .before .before .before .uses .ensures))
+    let e = c .before .before .before .before .before .before .before .before .before .before .before .before in
+    let s = from-2 e in
+    c .words-fit .ensures ∙ ap testAll (word-rules (file-of s) (s .args .i) (record-of e) (used-of e) (record-read e) (used-read e))
 
 -- the operand fields, used or not, name records of the file
-limit-low : (c : tie.After-operand-limit) → c .operand-limit .result ≤ from-2 (c .before .before) .args .n
+limit-low : (c : tie.After-operand-limit) → c .operand-limit .result ≤ from-2 (c .before) .args .n
 limit-low c =
-    let s = from-2 (c .before .before) in
-    subst (λ (l : ℕ). l ≤ s .args .n) (sym (c .operand-limit .ensures)) (limit-le (c .before .uses .result .role) (s .args .n) (s .args .i) (omega (arith, s .pre .2)))
+    let s = from-2 (c .before) in
+    subst (λ (l : ℕ). l ≤ s .args .n) (sym (c .operand-limit .ensures))
+    (limit-le (used-of (c .before) .role) (s .args .n) (s .args .i) (omega (arith, s .pre .2)))
 
-uses-padded : (c : tie.Else3) → Padded (c .before .before .before .uses .result)
-uses-padded c = subst Padded (sym (c .before .before .before .uses .ensures)) (padded (record-of (c .before .before .before .before) .kind))
+uses-padded : (c : tie.Else2) → Padded (used-of c)
+uses-padded c = subst Padded (sym (used-read c)) (padded (record-of c .kind))
 
-operand-low : (c : tie.Else3) (k j : ℕ) → j ≡ getD (operandsOf (c .before .before .before .uses .result)) k 0 → recordStart j + 24 ≤ length (file-of (from-3 c))
+operand-low : (c : tie.Else3) (k j : ℕ) → j ≡ getD (operandsOf (used-of (c .before .before .before))) k 0 → recordStart j + 24 ≤ length (file-of (from-3 c))
 operand-low c k j e =
     let s = from-3 c in
-    let h = operand-below (design-of s) (c .before .before .operand-limit .result) (s .args .n) (operandsOf (c .before .before .before .uses .result))
+    let h = operand-below (design-of s) (c .before .before .operand-limit .result) (s .args .n) (operandsOf (used-of (c .before .before .before)))
           (limit-low (c .before .before)) (omega (arith, s .pre .2)) (sym (c .before .operands-fit .ensures) ∙ not-false _ (c .if3 .left)) k in
     omega (arith, h, s .pre .1)
 
@@ -118,11 +121,11 @@ kind-known c v = holding _ _ (and-true _ ∙ ap (λ (n : ℕ). ltb n 15) (sym (c
 
 width-right : (c : tie.Else2) → Leaves (from-2 c) 2
 unfolding Leaves recordRules
-width-right c v e = kind-known (c .before .before .before) v (holding _ _ (sym (width-test (c .before)) ∙ not-false _ (c .if2 .left)) e)
+width-right c v e = kind-known (c .before .before .before .before) v (holding _ _ (sym (width-test (c .before)) ∙ not-false _ (c .if2 .left)) e)
 
 operands-right : (c : tie.Else3) → Leaves (from-3 c) 3
 unfolding Leaves recordRules
-operands-right c v e = width-right (c .before .before .before .before) v (holding _ _ (sym (operand-test (c .before)) ∙ not-false _ (c .if3 .left)) e)
+operands-right c v e = width-right (c .before .before .before) v (holding _ _ (sym (operand-test (c .before)) ∙ not-false _ (c .if3 .left)) e)
 
 widths-right : (c : tie.Else4) → Leaves (from-4 c) 4
 unfolding Leaves recordRules
@@ -142,34 +145,34 @@ returns c = broken _ _ (and-true _ ∙ ap (λ (n : ℕ). ltb n 15) (sym (c .befo
 record-at-requires : tie.Need-record-at-requires
 record-at-requires c κs = omega arith
 
+uses-requires : tie.Need-uses-requires
+uses-requires c κs = search needs
+
 width-in-range-requires : tie.Need-width-in-range-requires
 width-in-range-requires c κs = search needs
 
 returns-2 : tie.Need-returns-2
 unfolding Leaves recordRules
-returns-2 c = kind-known (c .before .before .before) _ (broken _ _ (sym (width-test (c .before)) ∙ not-true _ (c .if2 .taken)))
-
-uses-requires : tie.Need-uses-requires
-uses-requires c κs = search needs
+returns-2 c = kind-known (c .before .before .before .before) _ (broken _ _ (sym (width-test (c .before)) ∙ not-true _ (c .if2 .taken)))
 
 operand-limit-requires : tie.Need-operand-limit-requires
 operand-limit-requires c κs = search needs
 
 operands-fit-requires : tie.Need-operands-fit-requires
-operands-fit-requires c κs = omega (arith, limit-low c, from-2 (c .before .before) .pre .1)
+operands-fit-requires c κs = omega (arith, limit-low c, from-2 (c .before) .pre .1)
 
 returns-3 : tie.Need-returns-3
 unfolding Leaves recordRules
-returns-3 c = width-right (c .before .before .before .before) _ (broken _ _ (sym (operand-test (c .before)) ∙ not-true _ (c .if3 .taken)))
+returns-3 c = width-right (c .before .before .before) _ (broken _ _ (sym (operand-test (c .before)) ∙ not-true _ (c .if3 .taken)))
 
 width-at-requires : tie.Need-width-at-requires
-width-at-requires c κs = operand-low c 0 _ (uses-padded c .first)
+width-at-requires c κs = operand-low c 0 _ (uses-padded (c .before .before .before) .first)
 
 width-at-requires-2 : tie.Need-width-at-requires-2
-width-at-requires-2 c κs = operand-low (c .before) 1 _ (uses-padded (c .before) .second)
+width-at-requires-2 c κs = operand-low (c .before) 1 _ (uses-padded (c .before .before .before .before) .second)
 
 width-at-requires-3 : tie.Need-width-at-requires-3
-width-at-requires-3 c κs = operand-low (c .before .before) 2 _ (uses-padded (c .before .before) .third)
+width-at-requires-3 c κs = operand-low (c .before .before) 2 _ (uses-padded (c .before .before .before .before .before) .third)
 
 widths-fit-requires : tie.Need-widths-fit-requires
 widths-fit-requires c κs = search needs
@@ -206,9 +209,9 @@ check-record-spec =
     code-at-requires
     returns
     record-at-requires
+    uses-requires
     width-in-range-requires
     returns-2
-    uses-requires
     operand-limit-requires
     operands-fit-requires
     returns-3
