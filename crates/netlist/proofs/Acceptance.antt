@@ -55,9 +55,9 @@ accepted file n e =
       sound = record {
         few = header .1 .1 .1 .0 .0;
         each = λ i h.
-          let k = each-kept file n (countOf file) 0 (both .1) i (omega arith) (omega arith) in
-          record { width = k .1 .0; operands = k .1 .1 .0; widths = k .1 .1 .1 .0; words = k .1 .1 .1 .1 .1 .0 }
-      }
+            let k = each-kept file n (countOf file) 0 (both .1) i (omega arith) (omega arith) in
+            record { width = k .1 .0; operands = k .1 .1 .0; widths = k .1 .1 .1 .0; words = k .1 .1 .1 .1 .1 .0 };
+      };
     }
 
 -- a refusal names a record below the limit of records

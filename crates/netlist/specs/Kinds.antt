@@ -54,27 +54,37 @@ codeOf (Mul a b) = 12
 codeOf (Equal a b) = 13
 codeOf (Below a b) = 14
 
--- The table's column "uses", as counts and fields: n operands from a on, then k; 0 for a field that is not used. The k of a
--- constant or register is also a word of the record's width.
-abbrev uses : ℕ → ℕ → ℕ → ℕ → ℕ → ℕ → Role → Uses
-uses n a b c k word role = record { count = n; a = a; b = b; c = c; k = k; word = word; role = role }
+-- What a kind uses: no operand, one, two or three, then k; 0 stands for a field that is not used. `word` is the k of a constant or
+-- register, which has to fit the width, and 0 elsewhere.
+abbrev pub none : ℕ → ℕ → Role → Uses
+none k word role = record { count = 0; a = 0; b = 0; c = 0; k = k; word = word; role = role }
 
+abbrev pub one : ℕ → ℕ → ℕ → Role → Uses
+one a k word role = record { count = 1; a = a; b = 0; c = 0; k = k; word = word; role = role }
+
+abbrev pub two : ℕ → ℕ → Uses
+two a b = record { count = 2; a = a; b = b; c = 0; k = 0; word = 0; role = gate }
+
+abbrev pub three : ℕ → ℕ → ℕ → Uses
+three a b c = record { count = 3; a = a; b = b; c = c; k = 0; word = 0; role = gate }
+
+-- The table's column "uses", and the role of each kind.
 unfoldable pub usesOf : Kind → Uses
-usesOf Input = uses 0 0 0 0 0 0 input
-usesOf (Constant k) = uses 0 0 0 0 k k gate
-usesOf (Register a k) = uses 1 a 0 0 k k (register a k)
-usesOf (Output a) = uses 1 a 0 0 0 0 output
-usesOf (Extract a k) = uses 1 a 0 0 k 0 gate
-usesOf (Concat a b) = uses 2 a b 0 0 0 gate
-usesOf (And a b) = uses 2 a b 0 0 0 gate
-usesOf (Or a b) = uses 2 a b 0 0 0 gate
-usesOf (Xor a b) = uses 2 a b 0 0 0 gate
-usesOf (Mux a b c) = uses 3 a b c 0 0 gate
-usesOf (Add a b) = uses 2 a b 0 0 0 gate
-usesOf (Sub a b) = uses 2 a b 0 0 0 gate
-usesOf (Mul a b) = uses 2 a b 0 0 0 gate
-usesOf (Equal a b) = uses 2 a b 0 0 0 gate
-usesOf (Below a b) = uses 2 a b 0 0 0 gate
+usesOf Input = none 0 0 input
+usesOf (Constant k) = none k k gate
+usesOf (Register a k) = one a k k (register a k)
+usesOf (Output a) = one a 0 0 output
+usesOf (Extract a k) = one a k 0 gate
+usesOf (Concat a b) = two a b
+usesOf (And a b) = two a b
+usesOf (Or a b) = two a b
+usesOf (Xor a b) = two a b
+usesOf (Mux a b c) = three a b c
+usesOf (Add a b) = two a b
+usesOf (Sub a b) = two a b
+usesOf (Mul a b) = two a b
+usesOf (Equal a b) = two a b
+usesOf (Below a b) = two a b
 
 -- The table's column "width rule", with wa, wb and wc for W(a), W(b) and W(c).
 unfoldable pub widthRules : Kind → ℕ → ℕ → ℕ → ℕ → List Rule

@@ -47,7 +47,7 @@ fieldsAt file i =
       a = numberAt file (recordStart i + 2) 2;
       b = numberAt file (recordStart i + 4) 2;
       c = numberAt file (recordStart i + 6) 2;
-      k = numberAt file (recordStart i + 8) 8
+      k = numberAt file (recordStart i + 8) 8;
     }
 
 unfoldable pub keepAt : List ℕ → ℕ → ℕ

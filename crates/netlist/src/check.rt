@@ -39,7 +39,13 @@ fn check_record(file: &[u8], n: usize, i: usize) -> Verdict
     if !operands_fit(file, operand_limit(role, n, i), uses) {
         return Verdict::Fail(Refusal::BadOperand);
     }
-    if !widths_fit(kind, w, width_at(file, uses.a), width_at(file, uses.b), width_at(file, uses.c)) {
+    if !widths_fit(
+        kind,
+        w,
+        width_at(file, uses.a),
+        width_at(file, uses.b),
+        width_at(file, uses.c),
+    ) {
         return Verdict::Fail(Refusal::BadWidthRule);
     }
     if !fields_fit(fields_at(file, i), uses) {

@@ -1,9 +1,9 @@
 // Where the header and the records stand in a file, and the reading of a record.
 // Each reader asks that what it reads lies within the file.
-use bits::bytes::read_16;
-use bits::bytes::read_64;
 use crate::record::Fields;
 use crate::record::Record;
+use bits::bytes::read_16;
+use bits::bytes::read_64;
 ghost use mathlib.Core.Path.{_≡_};
 ghost use Prim.Native.Nat.{_+_, _*_, _≤_, _<_, _^_};
 ghost use lib.ListN.{length};
@@ -13,6 +13,7 @@ ghost use Rattle.netlist.specs.Rules.{testAll};
 
 // The sizes of the header and of a record, in bytes.
 const HEADER: usize = 8;
+
 const RECORD: usize = 24;
 
 // The length of a file of n records, which is also where record n would start.
@@ -80,7 +81,12 @@ pub fn record_at(file: &[u8], i: usize) -> Record
     ensures { λ r. ⌜ r ≡ recordAt (now (file .entry)) i ⌝ }
 {
     let fields = fields_at(file, i);
-    Record::new(code_at(file, i), width_at(file, i), fields, keep_at(file, i))
+    Record::new(
+        code_at(file, i),
+        width_at(file, i),
+        fields,
+        keep_at(file, i),
+    )
 }
 
 // The mark `PCN`, and the zero byte after the version.

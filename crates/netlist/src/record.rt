@@ -1,7 +1,7 @@
 // A record of a netlist: its kind with the operands that the kind uses, and beside it the width and the keep word.
 // All that the code knows of a kind stands here and in `rules::widths_fit`.
 ghost use mathlib.Core.Path.{_≡_};
-ghost use Rattle.netlist.specs.Kinds.{kindOf, usesOf};
+ghost use Rattle.netlist.specs.Kinds.{kindOf, usesOf, none, one, two, three};
 
 // The four fields of a record in the file, used or not.
 pub struct Fields {
@@ -59,7 +59,9 @@ pub struct Uses {
 impl Record {
     // The limits of the format.
     pub const MAX_WIDTH: u64 = 64;
+
     pub const MAX_COUNT: usize = 2048;
+
     pub const KINDS: u64 = 15;
 
     // The record that a kind's number, a width, the four fields and a keep word make.
@@ -103,21 +105,79 @@ impl Kind {
         ensures { λ r. ⌜ r ≡ usesOf self ⌝ }
     {
         match self {
-            Kind::Input => Uses { count: 0, a: 0, b: 0, c: 0, k: 0, word: 0, role: Role::Input },
-            Kind::Constant { k } => Uses { count: 0, a: 0, b: 0, c: 0, k, word: k, role: Role::Gate },
-            Kind::Register { a, k } => Uses { count: 1, a, b: 0, c: 0, k, word: k, role: Role::Register { a, k } },
-            Kind::Output { a } => Uses { count: 1, a, b: 0, c: 0, k: 0, word: 0, role: Role::Output },
-            Kind::Extract { a, k } => Uses { count: 1, a, b: 0, c: 0, k, word: 0, role: Role::Gate },
-            Kind::Mux { a, b, c } => Uses { count: 3, a, b, c, k: 0, word: 0, role: Role::Gate },
-            Kind::Concat { a, b }
-            | Kind::And { a, b }
-            | Kind::Or { a, b }
-            | Kind::Xor { a, b }
-            | Kind::Add { a, b }
-            | Kind::Sub { a, b }
-            | Kind::Mul { a, b }
-            | Kind::Equal { a, b }
-            | Kind::Below { a, b } => Uses { count: 2, a, b, c: 0, k: 0, word: 0, role: Role::Gate },
+            Kind::Input => Uses::none(0, 0, Role::Input),
+            Kind::Constant { k } => Uses::none(k, k, Role::Gate),
+            Kind::Register { a, k } => Uses::one(a, k, k, Role::Register { a, k }),
+            Kind::Output { a } => Uses::one(a, 0, 0, Role::Output),
+            Kind::Extract { a, k } => Uses::one(a, k, 0, Role::Gate),
+            Kind::Concat { a, b } => Uses::two(a, b),
+            Kind::And { a, b } => Uses::two(a, b),
+            Kind::Or { a, b } => Uses::two(a, b),
+            Kind::Xor { a, b } => Uses::two(a, b),
+            Kind::Mux { a, b, c } => Uses::three(a, b, c),
+            Kind::Add { a, b } => Uses::two(a, b),
+            Kind::Sub { a, b } => Uses::two(a, b),
+            Kind::Mul { a, b } => Uses::two(a, b),
+            Kind::Equal { a, b } => Uses::two(a, b),
+            Kind::Below { a, b } => Uses::two(a, b),
+        }
+    }
+}
+
+impl Uses {
+    fn none(k: u64, word: u64, role: Role) -> Uses
+        ensures { λ r. ⌜ r ≡ none k word role ⌝ }
+    {
+        Uses {
+            count: 0,
+            a: 0,
+            b: 0,
+            c: 0,
+            k,
+            word,
+            role,
+        }
+    }
+
+    fn one(a: usize, k: u64, word: u64, role: Role) -> Uses
+        ensures { λ r. ⌜ r ≡ one a k word role ⌝ }
+    {
+        Uses {
+            count: 1,
+            a,
+            b: 0,
+            c: 0,
+            k,
+            word,
+            role,
+        }
+    }
+
+    fn two(a: usize, b: usize) -> Uses
+        ensures { λ r. ⌜ r ≡ two a b ⌝ }
+    {
+        Uses {
+            count: 2,
+            a,
+            b,
+            c: 0,
+            k: 0,
+            word: 0,
+            role: Role::Gate,
+        }
+    }
+
+    fn three(a: usize, b: usize, c: usize) -> Uses
+        ensures { λ r. ⌜ r ≡ three a b c ⌝ }
+    {
+        Uses {
+            count: 3,
+            a,
+            b,
+            c,
+            k: 0,
+            word: 0,
+            role: Role::Gate,
         }
     }
 }

@@ -1,12 +1,12 @@
 // The rules within a record, each as a test that answers what its definition says.
 // `names` and `operands_fit` ask that the records below the limit lie within the file.
-use bits::arith::shr;
 use crate::layout::code_at;
 use crate::record::Fields;
 use crate::record::Kind;
 use crate::record::Record;
 use crate::record::Role;
 use crate::record::Uses;
+use bits::arith::shr;
 ghost use mathlib.Core.Path.{_≡_};
 ghost use mathlib.Core.List.{[], _∷_};
 ghost use Prim.Native.Nat.{_+_, _^_, _≤_};

@@ -67,8 +67,8 @@ operand-test c =
     let s = from-2 e in
     c .operands-fit .ensures
     ∙ ap testAll
-        (operand-rules (file-of s) (s .args .i) (record-of e) (used-of e) (record-read e) (used-read e) (s .args .n) (c .before .operand-limit .result)
-        (s .pre .0) (c .before .operand-limit .ensures))
+    (operand-rules (file-of s) (s .args .i) (record-of e) (used-of e) (record-read e) (used-read e) (s .args .n) (c .before .operand-limit .result)
+    (s .pre .0) (c .before .operand-limit .ensures))
 
 widths-test : (c : tie.After-widths-fit) → c .widths-fit .result ≡ testAll (widthRulesAt (design-of (from-3 (c .before .before .before .before))) (from-3 (c .before .before .before .before) .args .i))
 widths-test c =
@@ -76,9 +76,9 @@ widths-test c =
     let s = from-2 e in
     c .widths-fit .ensures
     ∙ ap testAll
-        (width-rules (file-of s) (s .args .i) (record-of e) (used-of e) (record-read e) (used-read e) (c .before .before .before .width-at .result)
-        (c .before .before .width-at2 .result) (c .before .width-at3 .result) (c .before .before .before .width-at .ensures)
-        (c .before .before .width-at2 .ensures) (c .before .width-at3 .ensures))
+    (width-rules (file-of s) (s .args .i) (record-of e) (used-of e) (record-read e) (used-read e) (c .before .before .before .width-at .result)
+    (c .before .before .width-at2 .result) (c .before .width-at3 .result) (c .before .before .before .width-at .ensures)
+    (c .before .before .width-at2 .ensures) (c .before .width-at3 .ensures))
 
 fields-test : (c : tie.After-fields-fit) → c .fields-fit .result ≡ testAll (fieldRules (fieldsAt (file-of (from-4 (c .before .before))) (from-4 (c .before .before) .args .i)) (usesOf (design-of (from-4 (c .before .before)) .at (from-4 (c .before .before) .args .i) .kind)))
 unfolding designOf
@@ -86,7 +86,7 @@ fields-test c =
     let e = c .before .before .before .before .before .before .before .before .before .before in
     c .fields-fit .ensures
     ∙ ap₂ (λ (f : Fields) (u : Uses). testAll (fieldRules f u)) (c .before .fields-at .ensures)
-        (used-read e ∙ ap (λ (r : Record). usesOf (r .kind)) (record-read e))
+    (used-read e ∙ ap (λ (r : Record). usesOf (r .kind)) (record-read e))
 
 words-test : (c : tie.After-words-fit) → c .words-fit .result ≡ testAll (wordRules (design-of (from-5 (c .before)) .at (from-5 (c .before) .args .i)))
 words-test c =
@@ -108,7 +108,7 @@ operand-low : (c : tie.Else3) (k j : ℕ) → j ≡ getD (operandsOf (used-of (c
 operand-low c k j e =
     let s = from-3 c in
     let h = operand-below (design-of s) (c .before .before .operand-limit .result) (s .args .n) (operandsOf (used-of (c .before .before .before)))
-          (limit-low (c .before .before)) (omega (arith, s .pre .2)) (sym (c .before .operands-fit .ensures) ∙ not-false _ (c .if3 .left)) k in
+    (limit-low (c .before .before)) (omega (arith, s .pre .2)) (sym (c .before .operands-fit .ensures) ∙ not-false _ (c .if3 .left)) k in
     omega (arith, h, s .pre .1)
 
 -- v is the verdict of the record's rules if it is the verdict of those from the n-th on

@@ -59,10 +59,11 @@ loop-again : tie.Need-loop-again Inv-loop μ-loop
 unfolding refuseAt
 loop-again c = let a = c .before .before .before .before .before .before .args in
     let l = c .before .before .before .before .loop in
-    let rest = checkFrom (now (a .file)) (a .n - (l .i + 1)) (l .i + 1) in
-    (omega arith,
-    l .inv .1 ∙ check-step (now (a .file)) (a .n) (l .i) (c .before .before .before .loop-test .taken)
-    ∙ ap (λ (v : Verdict). refuseAt (l .i) v rest) (sym (c .before .before .check-record .ensures) ∙ c .enum-told .given .1))
+    let rest = checkFrom (now (a .file)) (a .n - (l .i + 1)) (l .i + 1) in (
+      omega arith,
+      l .inv .1 ∙ check-step (now (a .file)) (a .n) (l .i) (c .before .before .before .loop-test .taken)
+          ∙ ap (λ (v : Verdict). refuseAt (l .i) v rest) (sym (c .before .before .check-record .ensures) ∙ c .enum-told .given .1),
+    )
 
 -- src/check.rt:89:1
 returns-2 : tie.Need-returns-2 Inv-loop μ-loop
