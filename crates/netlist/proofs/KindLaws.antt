@@ -1,4 +1,4 @@
--- Laws of the table of kinds: a number above the last is no kind, and the number 3 alone is an output's.
+-- Laws of the table of kinds: numbers and kinds answer to each other, 3 alone is an output's number, and unused fields are 0.
 -- Assumes nothing.
 use mathlib.Core.Path.{_≡_, refl, sym, ap, _∙_}
 use mathlib.Core.Bool.{Bool, true, false}
@@ -6,10 +6,10 @@ use mathlib.Core.List.{List, [], _∷_, map}
 use Prim.Native.Nat.{ℕ, zero, suc, _+_, _≤_, _<_}
 use native.Mathlib.Omega.{arith}
 use borrow.Author.Tests.{ne-eqb}
-use lib.Dec.{eqb}
+use lib.Dec.{eqb, lit<}
 use lib.ListN.{getD, drop, replicate, List·getD-eq-default, List·getD-map}
-use Rattle.netlist.specs.Check.{isOutput, operandsOf}
-use Rattle.netlist.specs.Kinds.{kinds, kindOf, usesOf}
+use Rattle.netlist.specs.Check.{isOutput, operandsOf, kindCount}
+use Rattle.netlist.specs.Kinds.{kinds, kindOf, codeOf, usesOf}
 use Rattle.netlist.specs.declared.record.Fields.{Fields}
 use Rattle.netlist.specs.declared.record.Kind.{Kind}
 use Rattle.netlist.specs.declared.record.Kind.the-variants.{Input, Constant, Register, Output, Extract, Concat, And, Or, Xor, Mux, Add, Sub, Mul, Equal, Below}
@@ -36,6 +36,46 @@ output-code (suc (suc (suc zero))) f = refl
 output-code (suc (suc (suc (suc n)))) f =
     sym (List·getD-map (λ (k : Kind). isOutput (usesOf k .role)) (drop 4 (kinds f)) n Input)
     ∙ everywhere 11 n false ∙ sym (ne-eqb (suc (suc (suc (suc n)))) 3 (λ e. omega arith))
+
+-- a kind is the one with its number and the fields that it uses
+abbrev pub usedFields : Uses → Fields
+usedFields u = record { a = u .a; b = u .b; c = u .c; k = u .k }
+
+pub kind-back : (k : Kind) → kindOf (codeOf k) (usedFields (usesOf k)) ≡ k
+unfolding kindOf codeOf usesOf
+kind-back Input = refl
+kind-back (Constant k) = refl
+kind-back (Register a k) = refl
+kind-back (Output a) = refl
+kind-back (Extract a k) = refl
+kind-back (Concat a b) = refl
+kind-back (And a b) = refl
+kind-back (Or a b) = refl
+kind-back (Xor a b) = refl
+kind-back (Mux a b c) = refl
+kind-back (Add a b) = refl
+kind-back (Sub a b) = refl
+kind-back (Mul a b) = refl
+kind-back (Equal a b) = refl
+kind-back (Below a b) = refl
+
+pub code-low : (k : Kind) → codeOf k < kindCount
+unfolding codeOf
+code-low Input = lit< tt
+code-low (Constant k) = lit< tt
+code-low (Register a k) = lit< tt
+code-low (Output a) = lit< tt
+code-low (Extract a k) = lit< tt
+code-low (Concat a b) = lit< tt
+code-low (And a b) = lit< tt
+code-low (Or a b) = lit< tt
+code-low (Xor a b) = lit< tt
+code-low (Mux a b c) = lit< tt
+code-low (Add a b) = lit< tt
+code-low (Sub a b) = lit< tt
+code-low (Mul a b) = lit< tt
+code-low (Equal a b) = lit< tt
+code-low (Below a b) = lit< tt
 
 -- the operand fields are the operands, and 0 where there is none
 pub record Padded (u : Uses) : Type 0 where

@@ -2,6 +2,9 @@
 -- Assumes nothing.
 pub mod Acceptance
 pub mod CheckLaws
+pub mod Encoded
+pub mod EncodedBytes
 pub mod KindLaws
 pub mod OperandLaws
+pub mod SoundLaws
 pub mod Tests

@@ -27,8 +27,12 @@ encodeFrom d (suc left) i = encodeRecord (d .at i) ++ encodeFrom d left (suc i)
 unfoldable pub encode : Design → List ℕ
 encode d = (0x50 ∷ 0x43 ∷ 0x4e ∷ bytes 2 1) ++ (0 ∷ bytes 2 (d .count)) ++ encodeFrom d (d .count) 0
 
+-- Every element of a list is a byte.
+pub record AreBytes (l : List ℕ) : Type 0 where
+  pub low : (i : ℕ) → byteAt l i < 256
+
 -- A file stands for a design: it is made of bytes, check accepts it, and it holds that design.
 pub record StandsFor (file : List ℕ) (d : Design) : Type 0 where
-  pub bytes : (i : ℕ) → byteAt file i < 256
+  pub bytes : AreBytes file
   pub accepted : checkOf file ≡ Accepted (d .count)
   pub same : SameDesign d (designOf file)
