@@ -6,10 +6,9 @@ use mathlib.Core.List.{List}
 use Prim.Native.Nat.{ℕ, zero, suc, _+_, _≤_, _<_}
 use native.Mathlib.Nat.{eq-or-lt-of-le}
 use native.Mathlib.Omega.{arith}
-use lib.ListN.{length}
 use Rattle.netlist.specs.Check.{maxCount, checkOf, checkFrom, refuseAt, firstBroken, headerRules, recordRules}
 use Rattle.netlist.specs.Layout.{designOf, countOf, recordStart}
-use Rattle.netlist.specs.Sound.{Acceptance, Sound, SoundRecord}
+use Rattle.netlist.specs.Sound.{Acceptance}
 use Rattle.netlist.specs.declared.check.Checked.{Checked}
 use Rattle.netlist.specs.declared.check.Checked.the-variants.{Accepted, Refused}
 use Rattle.netlist.specs.declared.check.Verdict.{Verdict}

@@ -9,7 +9,7 @@ use native.Mathlib.Numerals.{add-one}
 use native.Mathlib.Omega.{arith}
 use Rattle.netlist.specs.Check.{firstBroken, refuseAt, checkFrom, recordRules, operandLimit, operandsOf, namesRules, operandRules, widthRulesAt, wordRules}
 use Rattle.netlist.specs.Kinds.{usesOf, widthRules}
-use Rattle.netlist.specs.Layout.{designOf, recordAt, countOf, widthAt, fieldsAt}
+use Rattle.netlist.specs.Layout.{designOf, recordAt, countOf, widthAt}
 use Rattle.netlist.specs.Rules.{Rule, below, testAll, AllHold}
 use Rattle.netlist.specs.declared.refusal.Refusal.{Refusal}
 use Rattle.netlist.specs.declared.check.Verdict.{Verdict}

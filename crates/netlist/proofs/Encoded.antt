@@ -1,30 +1,26 @@
 -- No vacuous acceptance: every sound design has a file that check accepts and that holds the same design.
 -- Assumes nothing.
-use mathlib.Core.Path.{_≡_, refl, sym, ap, ap₂, subst, _∙_}
+use mathlib.Core.Path.{_≡_, refl, sym, ap, _∙_}
 use mathlib.Core.List.{List, [], _∷_, _++_}
-use Prim.Native.Nat.{ℕ, zero, suc, _+_, _*_, _^_, _≤_, _<_}
-use native.Mathlib.Nat.{add-zero, le-of-eq}
+use Prim.Native.Nat.{ℕ, zero, suc, _+_, _≤_, _<_}
+use native.Mathlib.Nat.{add-zero}
 use native.Mathlib.Omega.{arith}
 use lib.Dec.{lit<}
-use lib.ListN.{length, getD}
-use Rattle.bits.specs.Bytes.{numberAt, bytes}
+use Rattle.bits.specs.Bytes.{bytes}
 use Rattle.bits.proofs.LittleEndian.{numberAt-bytes, bytes-low}
-use Rattle.netlist.specs.Check.{checkOf, checkFrom, refuseAt, firstBroken, headerRules, recordRules, fieldRules, wordRules}
+use Rattle.netlist.specs.Check.{checkOf, checkFrom, refuseAt, headerRules, recordRules, fieldRules, wordRules}
 use Rattle.netlist.specs.Encode.{encode, encodeFrom, encodeRecord, AreBytes, StandsFor}
-use Rattle.netlist.specs.Kinds.{kindOf, codeOf, usesOf}
+use Rattle.netlist.specs.Kinds.{codeOf, usesOf}
 use Rattle.netlist.specs.Layout.{Design, designOf, recordAt, codeAt, widthAt, fieldsAt, keepAt, countOf, byteAt, recordStart}
 use Rattle.netlist.specs.Rules.{AllHold}
-use Rattle.netlist.specs.Sound.{Sound, SoundRecord, SameDesign}
+use Rattle.netlist.specs.Sound.{Sound, SameDesign}
 use Rattle.netlist.specs.declared.check.Checked.the-variants.{Accepted}
 use Rattle.netlist.specs.declared.check.Verdict.{Verdict}
-use Rattle.netlist.specs.declared.record.Fields.{Fields}
 use Rattle.netlist.specs.declared.record.Kind.{Kind}
-use Rattle.netlist.specs.declared.record.Record.{Record}
-use Rattle.netlist.specs.declared.record.Uses.{Uses}
 use Rattle.netlist.proofs.CheckLaws.{Kept, kept-pass}
 use Rattle.netlist.proofs.EncodedBytes.{length-encode, byte-encode, number-encode}
 use Rattle.netlist.proofs.KindLaws.{usedFields, kind-back, code-low}
-use Rattle.netlist.proofs.SoundLaws.{OperandsBelow, operands-below, word-64, k-64, record-same}
+use Rattle.netlist.proofs.SoundLaws.{operands-below, word-64, k-64, record-same}
 
 -- lists of bytes
 byte-first : {x : ℕ} {l : List ℕ} → x < 256 → AreBytes l → AreBytes (x ∷ l)
@@ -74,11 +70,12 @@ module _ (d : Design) (s : Sound d) where
         let u = usesOf (d .at i .kind) in
         let b = operands-below d s i h in
         let few = s .few in
-        rw
-        (number-encode d i 2 2 h (omega arith) ∙ numberAt-bytes 2 (u .a) [] (let g = b .a in omega arith),
-        number-encode d i 4 2 h (omega arith) ∙ numberAt-bytes 2 (u .b) [] (let g = b .b in omega arith),
-        number-encode d i 6 2 h (omega arith) ∙ numberAt-bytes 2 (u .c) [] (let g = b .c in omega arith),
-        number-encode d i 8 8 h (omega arith) ∙ numberAt-bytes 8 (u .k) [] (k-64 d s i h))
+        rw (
+          number-encode d i 2 2 h (omega arith) ∙ numberAt-bytes 2 (u .a) [] (let g = b .a in omega arith),
+          number-encode d i 4 2 h (omega arith) ∙ numberAt-bytes 2 (u .b) [] (let g = b .b in omega arith),
+          number-encode d i 6 2 h (omega arith) ∙ numberAt-bytes 2 (u .c) [] (let g = b .c in omega arith),
+          number-encode d i 8 8 h (omega arith) ∙ numberAt-bytes 8 (u .k) [] (k-64 d s i h),
+        )
 
     record-back : recordAt (encode d) i ≡ d .at i
     unfolding recordAt
@@ -148,5 +145,5 @@ module _ (d : Design) (s : Sound d) where
             (bytes-append (bytes 2 1) (0 ∷ bytes 2 (d .count)) (number-bytes 2 1) (byte-first (lit< tt) (number-bytes 2 (d .count)))))))
             (from-bytes (d .count) 0 (omega arith));
         accepted = check-back;
-        same = same-back
+        same = same-back;
       }

@@ -1,17 +1,17 @@
 -- Laws of used operands: which they are by their count, and the test of the first apart from the test of the rest.
 -- Assumes nothing.
-use mathlib.Core.Path.{_≡_, refl, sym, ap, _∙_}
+use mathlib.Core.Path.{_≡_, sym, ap, _∙_}
 use mathlib.Core.Bool.{Bool, true, false, not, _&&_, and-true, and-assoc}
 use mathlib.Core.List.{List, [], _∷_}
 use Prim.Native.Nat.{ℕ, zero, suc, _-_, _≤_, _<_}
 use native.Mathlib.Omega.{arith}
 use borrow.Author.Tests.{ltb-true}
 use lib.Dec.{ltb}
-use lib.ListN.{take, length, getD}
+use lib.ListN.{take, getD}
 use lib.Seq.{take-all}
 use Rattle.netlist.specs.Check.{operandsOf, namesRules, isOutput, roleAt}
 use Rattle.netlist.specs.Layout.{Design}
-use Rattle.netlist.specs.Rules.{Rule, below, isNot, testAll}
+use Rattle.netlist.specs.Rules.{below, isNot, testAll}
 use Rattle.netlist.specs.declared.record.Uses.{Uses}
 use Rattle.netlist.proofs.Tests.{and-first, and-second}
 

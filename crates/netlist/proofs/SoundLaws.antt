@@ -1,13 +1,12 @@
 -- Laws of sound designs: operand fields name records of the design, k fits a word, and a design that is the same in all its
 -- records is sound too. Assumes nothing.
-use mathlib.Core.Path.{_≡_, refl, sym, ap, subst, _∙_}
+use mathlib.Core.Path.{_≡_, sym, subst}
 use mathlib.Core.List.{List, [], _∷_}
 use mathlib.Core.Bool.{false}
-use Prim.Native.Nat.{ℕ, zero, suc, _+_, _^_, _≤_, _<_}
-use native.Mathlib.Nat.{lt-of-lt-of-le, le-refl}
+use Prim.Native.Nat.{ℕ, _^_, _≤_, _<_}
+use native.Mathlib.Nat.{lt-of-lt-of-le}
 use native.Mathlib.Omega.{arith}
 use lib.Dec.{lit<}
-use lib.ListN.{getD}
 use lib.Pow.{pow-mono}
 use Rattle.netlist.specs.Check.{operandLimit, operandsOf, isOutput, namesRules, operandRules, widthRulesAt, wordRules, widthRange}
 use Rattle.netlist.specs.Kinds.{usesOf, widthRules}
@@ -58,11 +57,11 @@ module _ (d : Design) (s : Sound d) (i : ℕ) (h : i < d .count) where
       let u = usesOf (d .at i .kind) in
       let p = padded (d .at i .kind) in
       let below = operand-below d (operandLimit (u .role) (d .count) i) (d .count) (operandsOf u) limit-count (omega arith)
-            (hold-tests (operandRules d i) (s .each i h .operands)) in
+      (hold-tests (operandRules d i) (s .each i h .operands)) in
       record {
         a = subst (λ (j : ℕ). j < d .count) (sym (p .first)) (below 0);
         b = subst (λ (j : ℕ). j < d .count) (sym (p .second)) (below 1);
-        c = subst (λ (j : ℕ). j < d .count) (sym (p .third)) (below 2)
+        c = subst (λ (j : ℕ). j < d .count) (sym (p .third)) (below 2);
       }
 
   -- a word within a record's width is a word of 64 bits
@@ -109,5 +108,5 @@ module _ (d e : Design) (same : SameDesign d e) (s : Sound d) (i : ℕ) (h : i <
         width = subst (λ (r : Record). AllHold (widthRange (r .width))) (same .each i h) (s .each i h .width);
         operands = operands-same;
         widths = widths-same;
-        words = subst (λ (r : Record). AllHold (wordRules r)) (same .each i h) (s .each i h .words)
+        words = subst (λ (r : Record). AllHold (wordRules r)) (same .each i h) (s .each i h .words);
       }

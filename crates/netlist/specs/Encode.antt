@@ -3,7 +3,6 @@
 use mathlib.Core.Path.{_≡_}
 use mathlib.Core.List.{List, [], _∷_, _++_}
 use Prim.Native.Nat.{ℕ, zero, suc, _<_}
-use lib.ListN.{getD}
 use Rattle.bits.specs.Bytes.{bytes}
 use Rattle.netlist.specs.Check.{checkOf}
 use Rattle.netlist.specs.Kinds.{codeOf, usesOf}

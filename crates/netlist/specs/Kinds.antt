@@ -1,9 +1,8 @@
 -- All that is said of a kind: its number, the fields it uses, its role in a design, its width rule.
 -- Assumes nothing.
-use mathlib.Core.Bool.{Bool, true, false}
 use mathlib.Core.List.{List, [], _∷_}
 use Prim.Native.Nat.{ℕ, _+_}
-use lib.ListN.{getD, take}
+use lib.ListN.{getD}
 use Rattle.netlist.specs.Rules.{Rule, equal, atMost}
 use Rattle.netlist.specs.declared.record.Fields.{Fields}
 use Rattle.netlist.specs.declared.record.Uses.{Uses}

@@ -1,9 +1,9 @@
 -- `netlist::check::check_record` meets its contract: each test that passed leaves the verdict to the rules after its own, and
 -- the operands that passed lie within the file. Assumes nothing.
 use mathlib.Core.Path.{_≡_, sym, ap, ap₂, subst, _∙_}
-use mathlib.Core.Bool.{Bool, true, false, and-true}
+use mathlib.Core.Bool.{and-true}
 use mathlib.Core.List.{List}
-use Prim.Native.Nat.{ℕ, _+_, _≤_, _<_}
+use Prim.Native.Nat.{ℕ, _+_, _≤_}
 use native.Mathlib.Omega.{arith}
 use borrow.Author.Needs.{needs}
 use borrow.Author.Tests.{lt-ltb, le-ltb, not-true, not-false}
@@ -13,7 +13,7 @@ use lib.ListN.{length, drop, getD}
 use Rattle.netlist.specs.Check.{firstBroken, recordRules, widthRange, operandsOf, fieldRules, widthRulesAt, operandRules, wordRules}
 use Rattle.netlist.specs.Kinds.{usesOf}
 use Rattle.netlist.specs.Layout.{Design, designOf, recordAt, recordStart, fieldsAt}
-use Rattle.netlist.specs.Rules.{Rule, testAll}
+use Rattle.netlist.specs.Rules.{testAll}
 use Rattle.netlist.specs.declared.check.Verdict.{Verdict}
 use Rattle.netlist.specs.declared.record.Fields.{Fields}
 use Rattle.netlist.specs.declared.record.Record.{Record}

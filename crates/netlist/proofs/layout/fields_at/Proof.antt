@@ -1,50 +1,37 @@
-use Rattle.netlist.specs.Layout.{fieldsAt}
+-- `netlist::layout::fields_at` meets its contract: four numbers at their places from the start of the record.
+-- Assumes nothing.
 use borrow.Author.Needs.{needs}
+use Rattle.netlist.specs.Layout.{fieldsAt}
 use Rattle.netlist.proofs.layout.fields_at.Statement.{statement}
 use Rattle.netlist.proofs.layout.fields_at.Tie as tie
-use Rattle.netlist.proofs.layout.fields_at.Reads as reads
-use Rattle.netlist.proofs.layout.fields_at.Lts as lts
-use Rattle.bits.proofs.bytes.read_16.Reads as read-16-reads
-use Rattle.bits.proofs.bytes.read_64.Reads as read-64-reads
-use Rattle.netlist.proofs.layout.record_start.Reads as record-start-reads
 
--- src/layout.rt:62:9
 record-start-requires : tie.Need-record-start-requires
 record-start-requires c κs = search needs
 
--- src/layout.rt:63:27
 add-read-16 : tie.Need-add-read-16
 add-read-16 c = search needs
 
--- src/layout.rt:63:13
 read-16-requires : tie.Need-read-16-requires
 read-16-requires c κs = search needs
 
--- src/layout.rt:64:27
 add-read-16-2 : tie.Need-add-read-16-2
 add-read-16-2 c = search needs
 
--- src/layout.rt:64:13
 read-16-requires-2 : tie.Need-read-16-requires-2
 read-16-requires-2 c κs = search needs
 
--- src/layout.rt:65:27
 add-read-16-3 : tie.Need-add-read-16-3
 add-read-16-3 c = search needs
 
--- src/layout.rt:65:13
 read-16-requires-3 : tie.Need-read-16-requires-3
 read-16-requires-3 c κs = search needs
 
--- src/layout.rt:66:27
 add-read-64 : tie.Need-add-read-64
 add-read-64 c = search needs
 
--- src/layout.rt:66:9
 read-64-requires : tie.Need-read-64-requires
 read-64-requires c κs = search needs
 
--- src/layout.rt:58:1
 returns : tie.Need-returns
 unfolding fieldsAt
 returns c = rw (c .read-64 .ensures, c .before .read-163 .ensures .0, c .before .before .read-162 .ensures .0, c .before .before .before .read-16 .ensures .0, c .before .before .before .before .record-start .ensures)

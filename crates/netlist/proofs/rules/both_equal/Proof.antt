@@ -1,15 +1,13 @@
-use borrow.Author.Tests.{eq-eqb, ne-eqb}
+-- `netlist::rules::both_equal` meets its contract: the first test that fails stops, and else the second decides.
+-- Assumes nothing.
 use mathlib.Core.Bool.{and-true}
+use borrow.Author.Tests.{eq-eqb, ne-eqb}
 use Rattle.netlist.proofs.rules.both_equal.Statement.{statement}
 use Rattle.netlist.proofs.rules.both_equal.Tie as tie
-use Rattle.netlist.proofs.rules.both_equal.Reads as reads
-use Rattle.netlist.proofs.rules.both_equal.Lts as lts
 
--- src/rules.rt:25:1
 returns : tie.Need-returns
 returns c = simp (eq-eqb _ _ (c .if1 .taken), and-true)
 
--- src/rules.rt:25:1
 returns-2 : tie.Need-returns-2
 returns-2 c = simp (ne-eqb _ _ (c .if1 .left))
 

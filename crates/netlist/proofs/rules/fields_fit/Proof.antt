@@ -1,29 +1,25 @@
-use Rattle.netlist.proofs.Tests.{goes-on, stops}
+-- `netlist::rules::fields_fit` meets its contract: the first field that differs stops.
+-- Assumes nothing.
 use mathlib.Core.Path.{sym}
-use Rattle.netlist.specs.Check.{fieldRules}
-use borrow.Author.Tests.{eq-eqb, ne-eqb}
 use mathlib.Core.Bool.{and-true}
+use borrow.Author.Tests.{eq-eqb, ne-eqb}
+use Rattle.netlist.specs.Check.{fieldRules}
+use Rattle.netlist.proofs.Tests.{goes-on, stops}
 use Rattle.netlist.proofs.rules.fields_fit.Statement.{statement}
 use Rattle.netlist.proofs.rules.fields_fit.Tie as tie
-use Rattle.netlist.proofs.rules.fields_fit.Reads as reads
-use Rattle.netlist.proofs.rules.fields_fit.Lts as lts
 
--- src/rules.rt:124:1
 returns : tie.Need-returns
 unfolding fieldRules
 returns c = goes-on (eq-eqb _ _ (c .before .before .before .before .before .before .before .before .if1 .taken)) (goes-on (eq-eqb _ _ (c .before .before .before .before .before .if2 .taken)) (goes-on (eq-eqb _ _ (c .before .before .if3 .taken)) (sym (and-true _))))
 
--- src/rules.rt:124:1
 returns-2 : tie.Need-returns-2
 unfolding fieldRules
 returns-2 c = goes-on (eq-eqb _ _ (c .before .before .before .before .before .before .if1 .taken)) (goes-on (eq-eqb _ _ (c .before .before .before .if2 .taken)) (stops _ (ne-eqb _ _ (c .if3 .left))))
 
--- src/rules.rt:124:1
 returns-3 : tie.Need-returns-3
 unfolding fieldRules
 returns-3 c = goes-on (eq-eqb _ _ (c .before .before .before .if1 .taken)) (stops _ (ne-eqb _ _ (c .if2 .left)))
 
--- src/rules.rt:124:1
 returns-4 : tie.Need-returns-4
 unfolding fieldRules
 returns-4 c = stops _ (ne-eqb _ _ (c .if1 .left))

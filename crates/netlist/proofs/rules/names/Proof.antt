@@ -1,25 +1,21 @@
-use Rattle.netlist.proofs.Tests.{goes-on, stops}
-use Rattle.netlist.proofs.KindLaws.{output-code}
-use Rattle.netlist.specs.Layout.{designOf, recordAt, codeAt, fieldsAt}
-use lib.Dec.{eqb}
+-- `netlist::rules::names` meets its contract: the number 3 alone is an output's.
+-- Assumes nothing.
+use mathlib.Core.Bool.{not, and-true}
+use mathlib.Core.Path.{sym, ap, _∙_}
+use Prim.Native.Nat.{ℕ}
+use native.Mathlib.Omega.{arith}
 use borrow.Author.Tests.{lt-ltb, le-ltb}
 use denote.Ref.{now}
-use native.Mathlib.Omega.{arith}
-use Prim.Native.Nat.{ℕ}
-use mathlib.Core.Bool.{Bool, not, and-true}
-use mathlib.Core.Path.{_≡_, sym, ap, _∙_}
-use borrow.Author.Needs.{needs}
+use lib.Dec.{eqb}
+use Rattle.netlist.specs.Layout.{designOf, recordAt, codeAt, fieldsAt}
+use Rattle.netlist.proofs.Tests.{goes-on, stops}
+use Rattle.netlist.proofs.KindLaws.{output-code}
 use Rattle.netlist.proofs.rules.names.Statement.{statement}
 use Rattle.netlist.proofs.rules.names.Tie as tie
-use Rattle.netlist.proofs.rules.names.Reads as reads
-use Rattle.netlist.proofs.rules.names.Lts as lts
-use Rattle.netlist.proofs.layout.code_at.Reads as code-at-reads
 
--- src/rules.rt:97:18
 code-at-requires : tie.Need-code-at-requires
 code-at-requires c κs = omega arith
 
--- src/rules.rt:93:1
 returns : tie.Need-returns
 unfolding designOf recordAt
 returns c = let a = c .before .before .before .args in
@@ -27,7 +23,6 @@ returns c = let a = c .before .before .before .args in
     goes-on (lt-ltb _ _ (c .before .if1 .taken))
     (ap (λ (n : ℕ). not (eqb n 3)) (c .code-at .ensures) ∙ ap not (sym (output-code (codeAt file (a .j)) (fieldsAt file (a .j)))) ∙ sym (and-true _))
 
--- src/rules.rt:93:1
 returns-2 : tie.Need-returns-2
 returns-2 c = stops _ (le-ltb _ _ (c .if1 .left))
 

@@ -1,12 +1,11 @@
-use lib.Dec.{eqb}
+-- `netlist::rules::one_equal` meets its contract: a test, as a list of one rule.
+-- Assumes nothing.
 use mathlib.Core.Path.{sym}
 use mathlib.Core.Bool.{and-true}
+use lib.Dec.{eqb}
 use Rattle.netlist.proofs.rules.one_equal.Statement.{statement}
 use Rattle.netlist.proofs.rules.one_equal.Tie as tie
-use Rattle.netlist.proofs.rules.one_equal.Reads as reads
-use Rattle.netlist.proofs.rules.one_equal.Lts as lts
 
--- src/rules.rt:19:1
 returns : tie.Need-returns
 returns c = sym (and-true (eqb (c .args .x) (c .args .y)))
 

@@ -1,42 +1,34 @@
-use Rattle.netlist.specs.Check.{operandLimit}
+-- `netlist::rules::operand_limit` meets its contract: each role has its line in the definition.
+-- Assumes nothing.
 use borrow.Author.Needs.{needs}
+use Rattle.netlist.specs.Check.{operandLimit}
 use Rattle.netlist.proofs.rules.operand_limit.Statement.{statement}
 use Rattle.netlist.proofs.rules.operand_limit.Tie as tie
-use Rattle.netlist.proofs.rules.operand_limit.Reads as reads
-use Rattle.netlist.proofs.rules.operand_limit.Lts as lts
 
--- src/rules.rt:85:24
 enum-told : tie.Need-enum-told
 enum-told c = search needs
 
--- src/rules.rt:86:34
 enum-told-2 : tie.Need-enum-told-2
 enum-told-2 c = search needs
 
--- src/rules.rt:87:25
 enum-told-3 : tie.Need-enum-told-3
 enum-told-3 c = search needs
 
--- src/rules.rt:88:23
 enum-told-4 : tie.Need-enum-told-4
 enum-told-4 c = search needs
 
--- src/rules.rt:81:1
 returns : tie.Need-returns
 unfolding operandLimit
 returns c = rw (c .enum-told .given .1)
 
--- src/rules.rt:81:1
 returns-2 : tie.Need-returns-2
 unfolding operandLimit
 returns-2 c = rw (c .enum-told2 .given .1)
 
--- src/rules.rt:81:1
 returns-3 : tie.Need-returns-3
 unfolding operandLimit
 returns-3 c = rw (c .enum-told3 .given .1)
 
--- src/rules.rt:81:1
 returns-4 : tie.Need-returns-4
 unfolding operandLimit
 returns-4 c = rw (c .enum-told4 .given .1)

@@ -1,57 +1,47 @@
-use Rattle.netlist.proofs.OperandLaws.{none-used, first-fails, one-used, second-fails, two-used, three-used}
-use Rattle.netlist.specs.Layout.{designOf}
-use borrow.Author.Tests.{not-true, not-false}
-use denote.Ref.{now}
+-- `netlist::rules::operands_fit` meets its contract: the count says which operands there are, and the first that fails stops.
+-- Assumes nothing.
 use mathlib.Core.Path.{sym}
+use borrow.Author.Tests.{not-true, not-false}
 use borrow.Author.Needs.{needs}
+use denote.Ref.{now}
+use Rattle.netlist.specs.Layout.{designOf}
+use Rattle.netlist.proofs.OperandLaws.{none-used, first-fails, one-used, second-fails, two-used, three-used}
 use Rattle.netlist.proofs.rules.operands_fit.Statement.{statement}
 use Rattle.netlist.proofs.rules.operands_fit.Tie as tie
-use Rattle.netlist.proofs.rules.operands_fit.Reads as reads
-use Rattle.netlist.proofs.rules.operands_fit.Lts as lts
-use Rattle.netlist.proofs.rules.names.Reads as names-reads
 
--- src/rules.rt:106:9
 returns : tie.Need-returns
 returns c = let a = c .before .before .args in
     sym (none-used (designOf (now (a .file))) (a .limit) (a .uses) (c .if1 .taken))
 
--- src/rules.rt:108:9
 names-requires : tie.Need-names-requires
 names-requires c κs = search needs
 
--- src/rules.rt:109:9
 returns-2 : tie.Need-returns-2
 returns-2 c = let a = c .before .before .before .before .args in
     sym (first-fails (designOf (now (a .file))) (a .limit) (a .uses) _ (c .before .before .if1 .left) (c .before .names .ensures) (not-true _ (c .if2 .taken)))
 
--- src/rules.rt:112:9
 returns-3 : tie.Need-returns-3
 returns-3 c = let a = c .before .before .before .before .before .args in
     sym (one-used (designOf (now (a .file))) (a .limit) (a .uses) _ (c .before .before .before .if1 .left) (c .if3 .taken) (c .before .before .names .ensures) (not-false _ (c .before .if2 .left)))
 
--- src/rules.rt:114:9
 names-requires-2 : tie.Need-names-requires-2
 names-requires-2 c κs = search needs
 
--- src/rules.rt:115:9
 returns-4 : tie.Need-returns-4
 returns-4 c = let a = c .before .before .before .before .before .before .before .args in
     sym
     (second-fails (designOf (now (a .file))) (a .limit) (a .uses) _ (c .before .before .before .before .names .ensures) (not-false _ (c .before .before .before .if2 .left)) _ (c .before .names2 .ensures) (c .before .before .if3 .left)
     (not-true _ (c .if4 .taken)))
 
--- src/rules.rt:118:9
 returns-5 : tie.Need-returns-5
 returns-5 c = let a = c .before .before .before .before .before .before .before .before .args in
     sym
     (two-used (designOf (now (a .file))) (a .limit) (a .uses) _ (c .before .before .before .before .before .names .ensures) (not-false _ (c .before .before .before .before .if2 .left)) _ (c .before .before .names2 .ensures) (c .before .before .before .if3 .left)
     (c .if5 .taken) (not-false _ (c .before .if4 .left)))
 
--- src/rules.rt:120:5
 names-requires-3 : tie.Need-names-requires-3
 names-requires-3 c κs = search needs
 
--- src/rules.rt:100:1
 returns-6 : tie.Need-returns-6
 returns-6 c = let a = c .before .before .before .before .before .before .before .before .before .args in
     sym

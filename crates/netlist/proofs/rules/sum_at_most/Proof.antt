@@ -1,14 +1,12 @@
+-- `netlist::rules::sum_at_most` meets its contract: the sum is tested by a difference, which cannot wrap.
+-- Assumes nothing.
 use Rattle.netlist.proofs.Tests.{sum-leb, sum-nleb}
 use Rattle.netlist.proofs.rules.sum_at_most.Statement.{statement}
 use Rattle.netlist.proofs.rules.sum_at_most.Tie as tie
-use Rattle.netlist.proofs.rules.sum_at_most.Reads as reads
-use Rattle.netlist.proofs.rules.sum_at_most.Lts as lts
 
--- src/rules.rt:45:1
 returns : tie.Need-returns
 returns c = sum-leb (c .before .args .x) (c .before .args .y) (c .before .args .z) (c .if1 .taken)
 
--- src/rules.rt:45:1
 returns-2 : tie.Need-returns-2
 returns-2 c = sum-nleb (c .before .args .x) (c .before .args .y) (c .before .args .z) (c .if1 .left)
 

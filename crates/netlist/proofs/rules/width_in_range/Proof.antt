@@ -1,15 +1,13 @@
-use borrow.Author.Tests.{le-leb, lt-leb}
+-- `netlist::rules::width_in_range` meets its contract: the first test that fails stops, and else the second decides.
+-- Assumes nothing.
 use mathlib.Core.Bool.{and-true}
+use borrow.Author.Tests.{le-leb, lt-leb}
 use Rattle.netlist.proofs.rules.width_in_range.Statement.{statement}
 use Rattle.netlist.proofs.rules.width_in_range.Tie as tie
-use Rattle.netlist.proofs.rules.width_in_range.Reads as reads
-use Rattle.netlist.proofs.rules.width_in_range.Lts as lts
 
--- src/rules.rt:51:1
 returns : tie.Need-returns
 returns c = simp (le-leb _ _ (c .if1 .taken), and-true)
 
--- src/rules.rt:51:1
 returns-2 : tie.Need-returns-2
 returns-2 c = simp (lt-leb _ _ (c .if1 .left))
 

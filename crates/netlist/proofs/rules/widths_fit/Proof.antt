@@ -1,198 +1,150 @@
-use Rattle.netlist.specs.Kinds.{widthRules}
+-- `netlist::rules::widths_fit` meets its contract: each kind has its line in the definition.
+-- Assumes nothing.
 use borrow.Author.Needs.{needs}
+use Rattle.netlist.specs.Kinds.{widthRules}
 use Rattle.netlist.proofs.rules.widths_fit.Statement.{statement}
 use Rattle.netlist.proofs.rules.widths_fit.Tie as tie
-use Rattle.netlist.proofs.rules.widths_fit.Reads as reads
-use Rattle.netlist.proofs.rules.widths_fit.Lts as lts
-use Rattle.netlist.proofs.rules.both_equal.Reads as both-equal-reads
-use Rattle.netlist.proofs.rules.one_equal.Reads as one-equal-reads
-use Rattle.netlist.proofs.rules.sum_at_most.Reads as sum-at-most-reads
-use Rattle.netlist.proofs.rules.sum_equal.Reads as sum-equal-reads
-use Rattle.netlist.proofs.rules.three_equal.Reads as three-equal-reads
 
--- src/rules.rt:62:24
 enum-told : tie.Need-enum-told
 enum-told c = search needs
 
--- src/rules.rt:63:34
 enum-told-2 : tie.Need-enum-told-2
 enum-told-2 c = search needs
 
--- src/rules.rt:64:34
 enum-told-3 : tie.Need-enum-told-3
 enum-told-3 c = search needs
 
--- src/rules.rt:64:34
 one-equal-requires : tie.Need-one-equal-requires
 one-equal-requires c κs = search needs
 
--- src/rules.rt:65:32
 enum-told-4 : tie.Need-enum-told-4
 enum-told-4 c = search needs
 
--- src/rules.rt:65:32
 one-equal-requires-2 : tie.Need-one-equal-requires-2
 one-equal-requires-2 c κs = search needs
 
--- src/rules.rt:66:25
 enum-known-kind : tie.Need-enum-known-kind
 enum-known-kind c = search needs
 
--- src/rules.rt:66:36
 sum-at-most-requires : tie.Need-sum-at-most-requires
 sum-at-most-requires c κs = search needs
 
--- src/rules.rt:67:32
 enum-told-5 : tie.Need-enum-told-5
 enum-told-5 c = search needs
 
--- src/rules.rt:67:32
 sum-equal-requires : tie.Need-sum-equal-requires
 sum-equal-requires c κs = search needs
 
--- src/rules.rt:68:29
 enum-told-6 : tie.Need-enum-told-6
 enum-told-6 c = search needs
 
--- src/rules.rt:68:29
 both-equal-requires : tie.Need-both-equal-requires
 both-equal-requires c κs = search needs
 
--- src/rules.rt:69:28
 enum-told-7 : tie.Need-enum-told-7
 enum-told-7 c = search needs
 
--- src/rules.rt:69:28
 both-equal-requires-2 : tie.Need-both-equal-requires-2
 both-equal-requires-2 c κs = search needs
 
--- src/rules.rt:70:29
 enum-told-8 : tie.Need-enum-told-8
 enum-told-8 c = search needs
 
--- src/rules.rt:70:29
 both-equal-requires-3 : tie.Need-both-equal-requires-3
 both-equal-requires-3 c κs = search needs
 
--- src/rules.rt:71:29
 enum-told-9 : tie.Need-enum-told-9
 enum-told-9 c = search needs
 
--- src/rules.rt:71:29
 three-equal-requires : tie.Need-three-equal-requires
 three-equal-requires c κs = search needs
 
--- src/rules.rt:72:29
 enum-told-10 : tie.Need-enum-told-10
 enum-told-10 c = search needs
 
--- src/rules.rt:72:29
 both-equal-requires-4 : tie.Need-both-equal-requires-4
 both-equal-requires-4 c κs = search needs
 
--- src/rules.rt:73:29
 enum-told-11 : tie.Need-enum-told-11
 enum-told-11 c = search needs
 
--- src/rules.rt:73:29
 both-equal-requires-5 : tie.Need-both-equal-requires-5
 both-equal-requires-5 c κs = search needs
 
--- src/rules.rt:74:29
 enum-told-12 : tie.Need-enum-told-12
 enum-told-12 c = search needs
 
--- src/rules.rt:74:29
 both-equal-requires-6 : tie.Need-both-equal-requires-6
 both-equal-requires-6 c κs = search needs
 
--- src/rules.rt:75:31
 enum-told-13 : tie.Need-enum-told-13
 enum-told-13 c = search needs
 
--- src/rules.rt:75:31
 both-equal-requires-7 : tie.Need-both-equal-requires-7
 both-equal-requires-7 c κs = search needs
 
--- src/rules.rt:76:31
 enum-told-14 : tie.Need-enum-told-14
 enum-told-14 c = search needs
 
--- src/rules.rt:76:31
 both-equal-requires-8 : tie.Need-both-equal-requires-8
 both-equal-requires-8 c κs = search needs
 
--- src/rules.rt:58:1
 returns : tie.Need-returns
 unfolding widthRules
 returns c = rw (c .enum-told .given .1)
 
--- src/rules.rt:58:1
 returns-2 : tie.Need-returns-2
 unfolding widthRules
 returns-2 c = rw (c .enum-told2 .given .1)
 
--- src/rules.rt:58:1
 returns-3 : tie.Need-returns-3
 unfolding widthRules
 returns-3 c = rw (c .before .enum-told3 .given .1) (c .one-equal .ensures)
 
--- src/rules.rt:58:1
 returns-4 : tie.Need-returns-4
 unfolding widthRules
 returns-4 c = rw (c .before .enum-told4 .given .1) (c .one-equal2 .ensures)
 
--- src/rules.rt:58:1
 returns-5 : tie.Need-returns-5
 unfolding widthRules
 returns-5 c = rw (c .before .before .kind .given .1) (c .sum-at-most .ensures)
 
--- src/rules.rt:58:1
 returns-6 : tie.Need-returns-6
 unfolding widthRules
 returns-6 c = rw (c .before .enum-told5 .given .1) (c .sum-equal .ensures)
 
--- src/rules.rt:58:1
 returns-7 : tie.Need-returns-7
 unfolding widthRules
 returns-7 c = rw (c .before .enum-told6 .given .1) (c .both-equal .ensures)
 
--- src/rules.rt:58:1
 returns-8 : tie.Need-returns-8
 unfolding widthRules
 returns-8 c = rw (c .before .enum-told7 .given .1) (c .both-equal2 .ensures)
 
--- src/rules.rt:58:1
 returns-9 : tie.Need-returns-9
 unfolding widthRules
 returns-9 c = rw (c .before .enum-told8 .given .1) (c .both-equal3 .ensures)
 
--- src/rules.rt:58:1
 returns-10 : tie.Need-returns-10
 unfolding widthRules
 returns-10 c = rw (c .before .enum-told9 .given .1) (c .three-equal .ensures)
 
--- src/rules.rt:58:1
 returns-11 : tie.Need-returns-11
 unfolding widthRules
 returns-11 c = rw (c .before .enum-told10 .given .1) (c .both-equal4 .ensures)
 
--- src/rules.rt:58:1
 returns-12 : tie.Need-returns-12
 unfolding widthRules
 returns-12 c = rw (c .before .enum-told11 .given .1) (c .both-equal5 .ensures)
 
--- src/rules.rt:58:1
 returns-13 : tie.Need-returns-13
 unfolding widthRules
 returns-13 c = rw (c .before .enum-told12 .given .1) (c .both-equal6 .ensures)
 
--- src/rules.rt:58:1
 returns-14 : tie.Need-returns-14
 unfolding widthRules
 returns-14 c = rw (c .before .enum-told13 .given .1) (c .both-equal7 .ensures)
 
--- src/rules.rt:58:1
 returns-15 : tie.Need-returns-15
 unfolding widthRules
 returns-15 c = rw (c .before .enum-told14 .given .1) (c .both-equal8 .ensures)

@@ -1,205 +1,156 @@
-use Rattle.netlist.specs.Kinds.{usesOf}
+-- `netlist::record::Kind::uses` meets its contract: each kind has its line in the definition.
+-- Assumes nothing.
 use borrow.Author.Needs.{needs}
+use Rattle.netlist.specs.Kinds.{usesOf}
 use Rattle.netlist.proofs.record.Kind.uses.Statement.{statement}
 use Rattle.netlist.proofs.record.Kind.uses.Tie as tie
-use Rattle.netlist.proofs.record.Kind.uses.Reads as reads
-use Rattle.netlist.proofs.record.Kind.uses.Lts as lts
-use Rattle.netlist.proofs.record.Uses.none.Reads as none-reads
-use Rattle.netlist.proofs.record.Uses.one.Reads as one-reads
-use Rattle.netlist.proofs.record.Uses.three.Reads as three-reads
-use Rattle.netlist.proofs.record.Uses.two.Reads as two-reads
 
--- src/record.rt:108:45
 enum-told : tie.Need-enum-told
 enum-told c = search needs
 
--- src/record.rt:108:28
 none-requires : tie.Need-none-requires
 none-requires c κs = search needs
 
--- src/record.rt:109:30
 enum-known-self : tie.Need-enum-known-self
 enum-known-self c = search needs
 
--- src/record.rt:109:37
 none-requires-2 : tie.Need-none-requires-2
 none-requires-2 c κs = search needs
 
--- src/record.rt:110:30
 enum-known-self-2 : tie.Need-enum-known-self-2
 enum-known-self-2 c = search needs
 
--- src/record.rt:110:40
 one-requires : tie.Need-one-requires
 one-requires c κs = search needs
 
--- src/record.rt:111:28
 enum-known-self-3 : tie.Need-enum-known-self-3
 enum-known-self-3 c = search needs
 
--- src/record.rt:111:35
 one-requires-2 : tie.Need-one-requires-2
 one-requires-2 c κs = search needs
 
--- src/record.rt:112:29
 enum-known-self-4 : tie.Need-enum-known-self-4
 enum-known-self-4 c = search needs
 
--- src/record.rt:112:39
 one-requires-3 : tie.Need-one-requires-3
 one-requires-3 c κs = search needs
 
--- src/record.rt:113:28
 enum-known-self-5 : tie.Need-enum-known-self-5
 enum-known-self-5 c = search needs
 
--- src/record.rt:113:38
 two-requires : tie.Need-two-requires
 two-requires c κs = search needs
 
--- src/record.rt:114:25
 enum-known-self-6 : tie.Need-enum-known-self-6
 enum-known-self-6 c = search needs
 
--- src/record.rt:114:35
 two-requires-2 : tie.Need-two-requires-2
 two-requires-2 c κs = search needs
 
--- src/record.rt:115:24
 enum-known-self-7 : tie.Need-enum-known-self-7
 enum-known-self-7 c = search needs
 
--- src/record.rt:115:34
 two-requires-3 : tie.Need-two-requires-3
 two-requires-3 c κs = search needs
 
--- src/record.rt:116:25
 enum-known-self-8 : tie.Need-enum-known-self-8
 enum-known-self-8 c = search needs
 
--- src/record.rt:116:35
 two-requires-4 : tie.Need-two-requires-4
 two-requires-4 c κs = search needs
 
--- src/record.rt:117:25
 enum-known-self-9 : tie.Need-enum-known-self-9
 enum-known-self-9 c = search needs
 
--- src/record.rt:117:38
 three-requires : tie.Need-three-requires
 three-requires c κs = search needs
 
--- src/record.rt:118:25
 enum-known-self-10 : tie.Need-enum-known-self-10
 enum-known-self-10 c = search needs
 
--- src/record.rt:118:35
 two-requires-5 : tie.Need-two-requires-5
 two-requires-5 c κs = search needs
 
--- src/record.rt:119:25
 enum-known-self-11 : tie.Need-enum-known-self-11
 enum-known-self-11 c = search needs
 
--- src/record.rt:119:35
 two-requires-6 : tie.Need-two-requires-6
 two-requires-6 c κs = search needs
 
--- src/record.rt:120:25
 enum-known-self-12 : tie.Need-enum-known-self-12
 enum-known-self-12 c = search needs
 
--- src/record.rt:120:35
 two-requires-7 : tie.Need-two-requires-7
 two-requires-7 c κs = search needs
 
--- src/record.rt:121:27
 enum-known-self-13 : tie.Need-enum-known-self-13
 enum-known-self-13 c = search needs
 
--- src/record.rt:121:37
 two-requires-8 : tie.Need-two-requires-8
 two-requires-8 c κs = search needs
 
--- src/record.rt:122:27
 enum-known-self-14 : tie.Need-enum-known-self-14
 enum-known-self-14 c = search needs
 
--- src/record.rt:122:37
 two-requires-9 : tie.Need-two-requires-9
 two-requires-9 c κs = search needs
 
--- src/record.rt:104:5
 returns : tie.Need-returns
 unfolding usesOf
 returns c = rw (c .before .enum-told .given .1) (c .none .ensures)
 
--- src/record.rt:104:5
 returns-2 : tie.Need-returns-2
 unfolding usesOf
 returns-2 c = rw (c .before .before .self .given .1) (c .none2 .ensures)
 
--- src/record.rt:104:5
 returns-3 : tie.Need-returns-3
 unfolding usesOf
 returns-3 c = rw (c .before .before .self2 .given .1) (c .one .ensures)
 
--- src/record.rt:104:5
 returns-4 : tie.Need-returns-4
 unfolding usesOf
 returns-4 c = rw (c .before .before .self3 .given .1) (c .one2 .ensures)
 
--- src/record.rt:104:5
 returns-5 : tie.Need-returns-5
 unfolding usesOf
 returns-5 c = rw (c .before .before .self4 .given .1) (c .one3 .ensures)
 
--- src/record.rt:104:5
 returns-6 : tie.Need-returns-6
 unfolding usesOf
 returns-6 c = rw (c .before .before .self5 .given .1) (c .two .ensures)
 
--- src/record.rt:104:5
 returns-7 : tie.Need-returns-7
 unfolding usesOf
 returns-7 c = rw (c .before .before .self6 .given .1) (c .two2 .ensures)
 
--- src/record.rt:104:5
 returns-8 : tie.Need-returns-8
 unfolding usesOf
 returns-8 c = rw (c .before .before .self7 .given .1) (c .two3 .ensures)
 
--- src/record.rt:104:5
 returns-9 : tie.Need-returns-9
 unfolding usesOf
 returns-9 c = rw (c .before .before .self8 .given .1) (c .two4 .ensures)
 
--- src/record.rt:104:5
 returns-10 : tie.Need-returns-10
 unfolding usesOf
 returns-10 c = rw (c .before .before .self9 .given .1) (c .three .ensures)
 
--- src/record.rt:104:5
 returns-11 : tie.Need-returns-11
 unfolding usesOf
 returns-11 c = rw (c .before .before .self10 .given .1) (c .two5 .ensures)
 
--- src/record.rt:104:5
 returns-12 : tie.Need-returns-12
 unfolding usesOf
 returns-12 c = rw (c .before .before .self11 .given .1) (c .two6 .ensures)
 
--- src/record.rt:104:5
 returns-13 : tie.Need-returns-13
 unfolding usesOf
 returns-13 c = rw (c .before .before .self12 .given .1) (c .two7 .ensures)
 
--- src/record.rt:104:5
 returns-14 : tie.Need-returns-14
 unfolding usesOf
 returns-14 c = rw (c .before .before .self13 .given .1) (c .two8 .ensures)
 
--- src/record.rt:104:5
 returns-15 : tie.Need-returns-15
 unfolding usesOf
 returns-15 c = rw (c .before .before .self14 .given .1) (c .two9 .ensures)

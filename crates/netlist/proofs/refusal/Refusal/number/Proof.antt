@@ -1,97 +1,77 @@
-use Rattle.netlist.specs.Check.{numberOf}
-use lib.Dec.{lit<}
+-- `netlist::refusal::Refusal::number` meets its contract: each refusal has its line in the definition.
+-- Assumes nothing.
 use borrow.Author.Needs.{needs}
+use lib.Dec.{lit<}
+use Rattle.netlist.specs.Check.{numberOf}
 use Rattle.netlist.proofs.refusal.Refusal.number.Statement.{statement}
 use Rattle.netlist.proofs.refusal.Refusal.number.Tie as tie
-use Rattle.netlist.proofs.refusal.Refusal.number.Reads as reads
-use Rattle.netlist.proofs.refusal.Refusal.number.Lts as lts
 
--- src/refusal.rt:26:34
 enum-told : tie.Need-enum-told
 enum-told c = search needs
 
--- src/refusal.rt:27:33
 enum-told-2 : tie.Need-enum-told-2
 enum-told-2 c = search needs
 
--- src/refusal.rt:28:36
 enum-told-3 : tie.Need-enum-told-3
 enum-told-3 c = search needs
 
--- src/refusal.rt:29:40
 enum-told-4 : tie.Need-enum-told-4
 enum-told-4 c = search needs
 
--- src/refusal.rt:30:35
 enum-told-5 : tie.Need-enum-told-5
 enum-told-5 c = search needs
 
--- src/refusal.rt:31:33
 enum-told-6 : tie.Need-enum-told-6
 enum-told-6 c = search needs
 
--- src/refusal.rt:32:34
 enum-told-7 : tie.Need-enum-told-7
 enum-told-7 c = search needs
 
--- src/refusal.rt:33:36
 enum-told-8 : tie.Need-enum-told-8
 enum-told-8 c = search needs
 
--- src/refusal.rt:34:38
 enum-told-9 : tie.Need-enum-told-9
 enum-told-9 c = search needs
 
--- src/refusal.rt:35:35
 enum-told-10 : tie.Need-enum-told-10
 enum-told-10 c = search needs
 
--- src/refusal.rt:21:5
 returns : tie.Need-returns
 unfolding numberOf
 returns c = (rw (c .enum-told .given .1), lit< tt)
 
--- src/refusal.rt:21:5
 returns-2 : tie.Need-returns-2
 unfolding numberOf
 returns-2 c = (rw (c .enum-told2 .given .1), lit< tt)
 
--- src/refusal.rt:21:5
 returns-3 : tie.Need-returns-3
 unfolding numberOf
 returns-3 c = (rw (c .enum-told3 .given .1), lit< tt)
 
--- src/refusal.rt:21:5
 returns-4 : tie.Need-returns-4
 unfolding numberOf
 returns-4 c = (rw (c .enum-told4 .given .1), lit< tt)
 
--- src/refusal.rt:21:5
 returns-5 : tie.Need-returns-5
 unfolding numberOf
 returns-5 c = (rw (c .enum-told5 .given .1), lit< tt)
 
--- src/refusal.rt:21:5
 returns-6 : tie.Need-returns-6
 unfolding numberOf
 returns-6 c = (rw (c .enum-told6 .given .1), lit< tt)
 
--- src/refusal.rt:21:5
 returns-7 : tie.Need-returns-7
 unfolding numberOf
 returns-7 c = (rw (c .enum-told7 .given .1), lit< tt)
 
--- src/refusal.rt:21:5
 returns-8 : tie.Need-returns-8
 unfolding numberOf
 returns-8 c = (rw (c .enum-told8 .given .1), lit< tt)
 
--- src/refusal.rt:21:5
 returns-9 : tie.Need-returns-9
 unfolding numberOf
 returns-9 c = (rw (c .enum-told9 .given .1), lit< tt)
 
--- src/refusal.rt:21:5
 returns-10 : tie.Need-returns-10
 unfolding numberOf
 returns-10 c = (rw (c .enum-told10 .given .1), lit< tt)
