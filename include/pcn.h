@@ -61,8 +61,8 @@ enum pcn_refusal {
     PCN_BAD_KIND = 6,
     PCN_BAD_WIDTH = 7,
     PCN_BAD_OPERAND = 8,
-    PCN_WIDTH_RULE = 9,
-    PCN_STRAY_BITS = 10
+    PCN_BAD_WIDTH_RULE = 9,
+    PCN_UNUSED_BIT = 10
 };
 
 /* Rules for callers.

@@ -187,7 +187,7 @@ static void taking_answers_apart(void)
     test_begin("an answer is taken apart by the header's helpers");
     if (!PCN_REFUSED(refused) || PCN_REFUSED(accepted))
         test_fail();
-    if (PCN_REFUSAL(refused) != PCN_WIDTH_RULE)
+    if (PCN_REFUSAL(refused) != PCN_BAD_WIDTH_RULE)
         test_fail();
     if (PCN_RECORD(refused) != 2047)
         test_fail();

@@ -60,7 +60,6 @@ check-step file n i h =
 
 -- an operand's limit lies within the count
 pub limit-le : (role : Role) (n i : ℕ) → i ≤ n → operandLimit role n i ≤ n
-unfolding operandLimit
 limit-le Input n i h = h
 limit-le (Register a k) n i h = le-refl n
 limit-le Output n i h = h

@@ -27,7 +27,7 @@ everywhere (suc m) (suc n) b = everywhere m n b
 
 -- "names an output": the kinds after the output's number are no outputs, and the three before it are none either
 pub output-code : (code : ℕ) (f : Fields) → isOutput (usesOf (kindOf code f) .role) ≡ eqb code 3
-unfolding kindOf usesOf isOutput
+unfolding kindOf
 output-code zero f = refl
 output-code (suc zero) f = refl
 output-code (suc (suc zero)) f = refl
@@ -41,7 +41,7 @@ abbrev pub usedFields : Uses → Fields
 usedFields u = record { a = u .a; b = u .b; c = u .c; k = u .k }
 
 pub kind-back : (k : Kind) → kindOf (codeOf k) (usedFields (usesOf k)) ≡ k
-unfolding kindOf codeOf usesOf
+unfolding kindOf
 kind-back Input = refl
 kind-back (Constant k) = refl
 kind-back (Register a k) = refl
@@ -59,7 +59,6 @@ kind-back (Equal a b) = refl
 kind-back (Below a b) = refl
 
 pub code-low : (k : Kind) → codeOf k < kindCount
-unfolding codeOf
 code-low Input = lit< tt
 code-low (Constant k) = lit< tt
 code-low (Register a k) = lit< tt
@@ -83,7 +82,7 @@ pub record Padded (u : Uses) : Type 0 where
   pub third : u .c ≡ getD (operandsOf u) 2 0
 
 pub padded : (k : Kind) → Padded (usesOf k)
-unfolding usesOf operandsOf
+unfolding operandsOf
 padded Input = record { first = refl; second = refl; third = refl }
 padded (Constant k) = record { first = refl; second = refl; third = refl }
 padded (Register a k) = record { first = refl; second = refl; third = refl }

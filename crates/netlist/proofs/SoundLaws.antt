@@ -30,7 +30,6 @@ pub record OperandsBelow (u : Uses) (n : ℕ) : Type 0 where
 
 -- k is a word of 64 bits: it fits its record's width, or it is a place within its operand
 k-word : (kind : Kind) (w wa wb wc : ℕ) → AllHold (widthRules kind w wa wb wc) → usesOf kind .word < 2 ^ 64 → wa ≤ 64 → usesOf kind .k < 2 ^ 64
-unfolding usesOf widthRules
 k-word Input w wa wb wc h g l = lit< tt
 k-word (Constant k) w wa wb wc h g l = g
 k-word (Register a k) w wa wb wc h g l = g

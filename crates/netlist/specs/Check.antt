@@ -30,7 +30,7 @@ abbrev pub kindCount : ℕ
 kindCount = 15
 
 -- The paper's number of each refusal.
-unfoldable pub numberOf : Refusal → ℕ
+abbrev pub numberOf : Refusal → ℕ
 numberOf TooShort = 1
 numberOf BadMark = 2
 numberOf BadVersion = 3
@@ -61,13 +61,13 @@ abbrev pub widthRange : ℕ → List Rule
 widthRange w = atMost 1 w ∷ atMost w maxWidth ∷ []
 
 -- 8: "A used operand is not below n for a register, or not below the record's own number for any other kind, or names an output."
-unfoldable pub operandLimit : Role → ℕ → ℕ → ℕ
+abbrev pub operandLimit : Role → ℕ → ℕ → ℕ
 operandLimit Input n i = i
 operandLimit (Register a k) n i = n
 operandLimit Output n i = i
 operandLimit Gate n i = i
 
-unfoldable pub isOutput : Role → Bool
+abbrev pub isOutput : Role → Bool
 isOutput Input = false
 isOutput (Register a k) = false
 isOutput Output = true

@@ -36,7 +36,7 @@ unfoldable pub kindOf : ℕ → Fields → Kind
 kindOf code f = getD (kinds f) code Input
 
 -- The number of a kind.
-unfoldable pub codeOf : Kind → ℕ
+abbrev pub codeOf : Kind → ℕ
 codeOf Input = 0
 codeOf (Constant k) = 1
 codeOf (Register a k) = 2
@@ -68,7 +68,7 @@ abbrev pub three : ℕ → ℕ → ℕ → Uses
 three a b c = record { count = 3; a = a; b = b; c = c; k = 0; word = 0; role = gate }
 
 -- The table's column "uses", and the role of each kind.
-unfoldable pub usesOf : Kind → Uses
+abbrev pub usesOf : Kind → Uses
 usesOf Input = none 0 0 input
 usesOf (Constant k) = none k k gate
 usesOf (Register a k) = one a k k (register a k)
@@ -86,7 +86,7 @@ usesOf (Equal a b) = two a b
 usesOf (Below a b) = two a b
 
 -- The table's column "width rule", with wa, wb and wc for W(a), W(b) and W(c).
-unfoldable pub widthRules : Kind → ℕ → ℕ → ℕ → ℕ → List Rule
+abbrev pub widthRules : Kind → ℕ → ℕ → ℕ → ℕ → List Rule
 widthRules Input w wa wb wc = []
 widthRules (Constant k) w wa wb wc = []
 widthRules (Register a k) w wa wb wc = equal wa w ∷ []

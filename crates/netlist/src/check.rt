@@ -1,10 +1,11 @@
-// The check of a file: the refusals in their order, and the operation.
+// The check of a file: the header's rules, each record's rules in rising order, and the operation `check`.
+// `check` asks nothing of its caller; the functions below it ask that the records lie within the file.
 use crate::layout::*;
 use crate::record::Record;
 use crate::refusal::Refusal;
 use crate::rules::*;
 ghost use mathlib.Core.Path.{_≡_};
-ghost use Prim.Native.Nat.{_+_, _*_, _≤_, _<_};
+ghost use Prim.Native.Nat.{_≤_, _<_};
 ghost use lib.ListN.{length};
 ghost use Rattle.netlist.specs.Check.{headerRules, recordRules, firstBroken, checkFrom, checkOf};
 ghost use Rattle.netlist.specs.Layout.{recordStart, countOf};
@@ -21,6 +22,7 @@ pub enum Checked {
     Refused(Refusal, usize),
 }
 
+// Rules 6 to 10, for record i of n.
 fn check_record(file: &[u8], n: usize, i: usize) -> Verdict
     requires { ⌜ (n ≡ countOf (now file)) × (recordStart n ≤ length (now file)) × (i < n) ⌝ }
     ensures { λ r. ⌜ r ≡ firstBroken (recordRules (now (file .entry)) i) ⌝ }
@@ -57,10 +59,11 @@ fn check_record(file: &[u8], n: usize, i: usize) -> Verdict
     Verdict::Pass
 }
 
+// Rules 1 to 5.
 fn check_header(file: &[u8]) -> Verdict
     ensures { λ r. ⌜ r ≡ firstBroken (headerRules (now (file .entry))) ⌝ }
 {
-    if file.len() < 8 {
+    if file.len() < HEADER {
         return Verdict::Fail(Refusal::TooShort);
     }
     if !marked(file) {
@@ -79,6 +82,7 @@ fn check_header(file: &[u8]) -> Verdict
     Verdict::Pass
 }
 
+// The records in rising order.
 fn check_records(file: &[u8], n: usize) -> Checked
     requires { ⌜ (n ≡ countOf (now file)) × (recordStart n ≤ length (now file)) ⌝ }
     ensures { λ r. ⌜ r ≡ checkFrom (now (file .entry)) n 0 ⌝ }

@@ -7,12 +7,12 @@ use bits::bytes::read_64;
 ghost use mathlib.Core.Path.{_≡_};
 ghost use Prim.Native.Nat.{_+_, _*_, _≤_, _<_, _^_};
 ghost use lib.ListN.{length};
-ghost use Rattle.netlist.specs.Layout.{recordStart, countOf, versionOf, codeAt, widthAt, fieldsAt, keepAt, recordAt};
+ghost use Rattle.netlist.specs.Layout.{headerSize, recordSize, recordStart, countOf, versionOf, codeAt, widthAt, fieldsAt, keepAt, recordAt};
 ghost use Rattle.netlist.specs.Check.{markRules};
 ghost use Rattle.netlist.specs.Rules.{testAll};
 
 // The sizes of the header and of a record, in bytes.
-const HEADER: usize = 8;
+pub const HEADER: usize = 8;
 
 const RECORD: usize = 24;
 
@@ -25,14 +25,14 @@ pub fn record_start(n: usize) -> usize
 }
 
 pub fn version(file: &[u8]) -> u64
-    requires { ⌜ 8 ≤ length (now file) ⌝ }
+    requires { ⌜ headerSize ≤ length (now file) ⌝ }
     ensures { λ r. ⌜ r ≡ versionOf (now (file .entry)) ⌝ }
 {
     read_16(file, 3)
 }
 
 pub fn record_count(file: &[u8]) -> usize
-    requires { ⌜ 8 ≤ length (now file) ⌝ }
+    requires { ⌜ headerSize ≤ length (now file) ⌝ }
     ensures count { λ r. ⌜ r ≡ countOf (now (file .entry)) ⌝ }
     ensures bound { λ r. ⌜ r < 2 ^ 16 ⌝ }
 {
@@ -41,7 +41,7 @@ pub fn record_count(file: &[u8]) -> usize
 
 // The kind's number of record i.
 pub fn code_at(file: &[u8], i: usize) -> u64
-    requires { ⌜ recordStart i + 24 ≤ length (now file) ⌝ }
+    requires { ⌜ recordStart i + recordSize ≤ length (now file) ⌝ }
     ensures { λ r. ⌜ r ≡ codeAt (now (file .entry)) i ⌝ }
 {
     let at = record_start(i);
@@ -49,7 +49,7 @@ pub fn code_at(file: &[u8], i: usize) -> u64
 }
 
 pub fn width_at(file: &[u8], i: usize) -> u64
-    requires { ⌜ recordStart i + 24 ≤ length (now file) ⌝ }
+    requires { ⌜ recordStart i + recordSize ≤ length (now file) ⌝ }
     ensures { λ r. ⌜ r ≡ widthAt (now (file .entry)) i ⌝ }
 {
     let at = record_start(i) + 1;
@@ -57,7 +57,7 @@ pub fn width_at(file: &[u8], i: usize) -> u64
 }
 
 pub fn fields_at(file: &[u8], i: usize) -> Fields
-    requires { ⌜ recordStart i + 24 ≤ length (now file) ⌝ }
+    requires { ⌜ recordStart i + recordSize ≤ length (now file) ⌝ }
     ensures { λ r. ⌜ r ≡ fieldsAt (now (file .entry)) i ⌝ }
 {
     let at = record_start(i);
@@ -69,7 +69,7 @@ pub fn fields_at(file: &[u8], i: usize) -> Fields
 }
 
 pub fn keep_at(file: &[u8], i: usize) -> u64
-    requires { ⌜ recordStart i + 24 ≤ length (now file) ⌝ }
+    requires { ⌜ recordStart i + recordSize ≤ length (now file) ⌝ }
     ensures { λ r. ⌜ r ≡ keepAt (now (file .entry)) i ⌝ }
 {
     read_64(file, record_start(i) + 16)
@@ -77,7 +77,7 @@ pub fn keep_at(file: &[u8], i: usize) -> u64
 
 // Record i, as its kind, width and keep word.
 pub fn record_at(file: &[u8], i: usize) -> Record
-    requires { ⌜ recordStart i + 24 ≤ length (now file) ⌝ }
+    requires { ⌜ recordStart i + recordSize ≤ length (now file) ⌝ }
     ensures { λ r. ⌜ r ≡ recordAt (now (file .entry)) i ⌝ }
 {
     let fields = fields_at(file, i);
@@ -91,7 +91,7 @@ pub fn record_at(file: &[u8], i: usize) -> Record
 
 // The mark `PCN`, and the zero byte after the version.
 pub fn marked(file: &[u8]) -> bool
-    requires { ⌜ 8 ≤ length (now file) ⌝ }
+    requires { ⌜ headerSize ≤ length (now file) ⌝ }
     ensures { λ r. ⌜ r ≡ testAll (markRules (now (file .entry))) ⌝ }
 {
     file[0] == 0x50 && (file[1] == 0x43 && (file[2] == 0x4e && file[5] == 0))

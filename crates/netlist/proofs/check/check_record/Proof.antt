@@ -12,7 +12,7 @@ use lib.Dec.{ltb}
 use lib.ListN.{length, drop, getD}
 use Rattle.netlist.specs.Check.{firstBroken, recordRules, widthRange, operandsOf, fieldRules, widthRulesAt, operandRules, wordRules}
 use Rattle.netlist.specs.Kinds.{usesOf}
-use Rattle.netlist.specs.Layout.{Design, designOf, recordAt, recordStart, fieldsAt}
+use Rattle.netlist.specs.Layout.{Design, designOf, recordAt, recordStart, recordSize, fieldsAt}
 use Rattle.netlist.specs.Rules.{testAll}
 use Rattle.netlist.specs.declared.check.Verdict.{Verdict}
 use Rattle.netlist.specs.declared.record.Fields.{Fields}
@@ -104,7 +104,7 @@ limit-low c =
 uses-padded : (c : tie.Else2) → Padded (used-of c)
 uses-padded c = subst Padded (sym (used-read c)) (padded (record-of c .kind))
 
-operand-low : (c : tie.Else3) (k j : ℕ) → j ≡ getD (operandsOf (used-of (c .before .before .before))) k 0 → recordStart j + 24 ≤ length (file-of (from-3 c))
+operand-low : (c : tie.Else3) (k j : ℕ) → j ≡ getD (operandsOf (used-of (c .before .before .before))) k 0 → recordStart j + recordSize ≤ length (file-of (from-3 c))
 operand-low c k j e =
     let s = from-3 c in
     let h = operand-below (design-of s) (c .before .before .operand-limit .result) (s .args .n) (operandsOf (used-of (c .before .before .before)))

@@ -1,7 +1,6 @@
 -- `netlist::rules::widths_fit` meets its contract: each kind has its line in the definition.
 -- Assumes nothing.
 use borrow.Author.Needs.{needs}
-use Rattle.netlist.specs.Kinds.{widthRules}
 use Rattle.netlist.proofs.rules.widths_fit.Statement.{statement}
 use Rattle.netlist.proofs.rules.widths_fit.Tie as tie
 
@@ -90,63 +89,48 @@ both-equal-requires-8 : tie.Need-both-equal-requires-8
 both-equal-requires-8 c κs = search needs
 
 returns : tie.Need-returns
-unfolding widthRules
 returns c = rw (c .enum-told .given .1)
 
 returns-2 : tie.Need-returns-2
-unfolding widthRules
 returns-2 c = rw (c .enum-told2 .given .1)
 
 returns-3 : tie.Need-returns-3
-unfolding widthRules
 returns-3 c = rw (c .before .enum-told3 .given .1) (c .one-equal .ensures)
 
 returns-4 : tie.Need-returns-4
-unfolding widthRules
 returns-4 c = rw (c .before .enum-told4 .given .1) (c .one-equal2 .ensures)
 
 returns-5 : tie.Need-returns-5
-unfolding widthRules
 returns-5 c = rw (c .before .before .kind .given .1) (c .sum-at-most .ensures)
 
 returns-6 : tie.Need-returns-6
-unfolding widthRules
 returns-6 c = rw (c .before .enum-told5 .given .1) (c .sum-equal .ensures)
 
 returns-7 : tie.Need-returns-7
-unfolding widthRules
 returns-7 c = rw (c .before .enum-told6 .given .1) (c .both-equal .ensures)
 
 returns-8 : tie.Need-returns-8
-unfolding widthRules
 returns-8 c = rw (c .before .enum-told7 .given .1) (c .both-equal2 .ensures)
 
 returns-9 : tie.Need-returns-9
-unfolding widthRules
 returns-9 c = rw (c .before .enum-told8 .given .1) (c .both-equal3 .ensures)
 
 returns-10 : tie.Need-returns-10
-unfolding widthRules
 returns-10 c = rw (c .before .enum-told9 .given .1) (c .three-equal .ensures)
 
 returns-11 : tie.Need-returns-11
-unfolding widthRules
 returns-11 c = rw (c .before .enum-told10 .given .1) (c .both-equal4 .ensures)
 
 returns-12 : tie.Need-returns-12
-unfolding widthRules
 returns-12 c = rw (c .before .enum-told11 .given .1) (c .both-equal5 .ensures)
 
 returns-13 : tie.Need-returns-13
-unfolding widthRules
 returns-13 c = rw (c .before .enum-told12 .given .1) (c .both-equal6 .ensures)
 
 returns-14 : tie.Need-returns-14
-unfolding widthRules
 returns-14 c = rw (c .before .enum-told13 .given .1) (c .both-equal7 .ensures)
 
 returns-15 : tie.Need-returns-15
-unfolding widthRules
 returns-15 c = rw (c .before .enum-told14 .given .1) (c .both-equal8 .ensures)
 
 pub widths-fit-spec : {M : Type 1} → statement M

@@ -1,7 +1,6 @@
 -- `netlist::record::Kind::uses` meets its contract: each kind has its line in the definition.
 -- Assumes nothing.
 use borrow.Author.Needs.{needs}
-use Rattle.netlist.specs.Kinds.{usesOf}
 use Rattle.netlist.proofs.record.Kind.uses.Statement.{statement}
 use Rattle.netlist.proofs.record.Kind.uses.Tie as tie
 
@@ -96,63 +95,48 @@ two-requires-9 : tie.Need-two-requires-9
 two-requires-9 c κs = search needs
 
 returns : tie.Need-returns
-unfolding usesOf
 returns c = rw (c .before .enum-told .given .1) (c .none .ensures)
 
 returns-2 : tie.Need-returns-2
-unfolding usesOf
 returns-2 c = rw (c .before .before .self .given .1) (c .none2 .ensures)
 
 returns-3 : tie.Need-returns-3
-unfolding usesOf
 returns-3 c = rw (c .before .before .self2 .given .1) (c .one .ensures)
 
 returns-4 : tie.Need-returns-4
-unfolding usesOf
 returns-4 c = rw (c .before .before .self3 .given .1) (c .one2 .ensures)
 
 returns-5 : tie.Need-returns-5
-unfolding usesOf
 returns-5 c = rw (c .before .before .self4 .given .1) (c .one3 .ensures)
 
 returns-6 : tie.Need-returns-6
-unfolding usesOf
 returns-6 c = rw (c .before .before .self5 .given .1) (c .two .ensures)
 
 returns-7 : tie.Need-returns-7
-unfolding usesOf
 returns-7 c = rw (c .before .before .self6 .given .1) (c .two2 .ensures)
 
 returns-8 : tie.Need-returns-8
-unfolding usesOf
 returns-8 c = rw (c .before .before .self7 .given .1) (c .two3 .ensures)
 
 returns-9 : tie.Need-returns-9
-unfolding usesOf
 returns-9 c = rw (c .before .before .self8 .given .1) (c .two4 .ensures)
 
 returns-10 : tie.Need-returns-10
-unfolding usesOf
 returns-10 c = rw (c .before .before .self9 .given .1) (c .three .ensures)
 
 returns-11 : tie.Need-returns-11
-unfolding usesOf
 returns-11 c = rw (c .before .before .self10 .given .1) (c .two5 .ensures)
 
 returns-12 : tie.Need-returns-12
-unfolding usesOf
 returns-12 c = rw (c .before .before .self11 .given .1) (c .two6 .ensures)
 
 returns-13 : tie.Need-returns-13
-unfolding usesOf
 returns-13 c = rw (c .before .before .self12 .given .1) (c .two7 .ensures)
 
 returns-14 : tie.Need-returns-14
-unfolding usesOf
 returns-14 c = rw (c .before .before .self13 .given .1) (c .two8 .ensures)
 
 returns-15 : tie.Need-returns-15
-unfolding usesOf
 returns-15 c = rw (c .before .before .self14 .given .1) (c .two9 .ensures)
 
 pub uses-spec : {M : Type 1} → statement M
