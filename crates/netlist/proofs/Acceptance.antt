@@ -6,7 +6,7 @@ use mathlib.Core.List.{List}
 use Prim.Native.Nat.{ℕ, zero, suc, _+_, _≤_, _<_}
 use native.Mathlib.Nat.{eq-or-lt-of-le}
 use native.Mathlib.Omega.{arith}
-use Rattle.netlist.specs.Check.{maxCount, checkOf, checkFrom, refuseAt, firstBroken, headerRules, recordRules}
+use Rattle.netlist.specs.Check.{maxCount, checkOf, checkFrom, refuseAt, firstBroken, headerRules, recordRules, wordRules}
 use Rattle.netlist.specs.Layout.{designOf, countOf, recordStart}
 use Rattle.netlist.specs.Sound.{Acceptance}
 use Rattle.netlist.specs.declared.check.Checked.{Checked}
@@ -43,7 +43,7 @@ accepted-count file n (suc left) i e =
     accepted-count file n left (suc i) (past-refusal i n (firstBroken (recordRules file i)) (checkFrom file left (suc i)) e .1)
 
 pub accepted : (file : List ℕ) (n : ℕ) → checkOf file ≡ Accepted n → Acceptance file n
-unfolding checkOf headerRules recordRules designOf
+unfolding checkOf headerRules recordRules wordRules designOf
 accepted file n e =
     let both = past-refusal 0 n (firstBroken (headerRules file)) (checkFrom file (countOf file) 0) e in
     let header = pass-kept (headerRules file) (both .0) in
@@ -55,7 +55,14 @@ accepted file n e =
         few = header .1 .1 .1 .0 .0;
         each = λ i h.
             let k = each-kept file n (countOf file) 0 (both .1) i (omega arith) (omega arith) in
-            record { width = k .1 .0; operands = k .1 .1 .0; widths = k .1 .1 .1 .0; words = k .1 .1 .1 .1 .1 .0 };
+            record {
+              positive = k .1 .0 .0;
+              narrow = k .1 .0 .1 .0;
+              operands = k .1 .1 .0;
+              widths = k .1 .1 .1 .0;
+              keep = k .1 .1 .1 .1 .1 .0 .0;
+              word = k .1 .1 .1 .1 .1 .0 .1 .0;
+            };
       };
     }
 

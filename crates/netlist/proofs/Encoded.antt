@@ -61,8 +61,8 @@ module _ (d : Design) (s : Sound d) where
     width-back = byte-encode d i 1 h (lit< tt)
 
     keep-back : keepAt (encode d) i ≡ d .at i .keep
-    unfolding keepAt encodeRecord wordRules
-    keep-back = number-encode d i 16 8 h (omega arith) ∙ numberAt-bytes 8 (d .at i .keep) [] (word-64 d s i h (d .at i .keep) (s .each i h .words .0))
+    unfolding keepAt encodeRecord
+    keep-back = number-encode d i 16 8 h (omega arith) ∙ numberAt-bytes 8 (d .at i .keep) [] (word-64 d s i h (d .at i .keep) (s .each i h .keep))
 
     fields-back : fieldsAt (encode d) i ≡ usedFields (usesOf (d .at i .kind))
     unfolding fieldsAt encodeRecord
@@ -101,12 +101,12 @@ module _ (d : Design) (s : Sound d) where
   fields-kept i h = rw (fields-back i h, record-back i h) (refl, (refl, (refl, (refl, tt))))
 
   record-kept : (i : ℕ) → i < d .count → Kept (recordRules (encode d) i)
-  unfolding recordRules
+  unfolding recordRules wordRules
   record-kept i h =
       let e = record-same d (designOf (encode d)) same-back s i h in
       let code = code-back i h in
       let low = code-low (d .at i .kind) in
-      ((omega arith, tt), (e .width, (e .operands, (e .widths, (fields-kept i h, (e .words, tt))))))
+      ((omega arith, tt), ((e .positive, (e .narrow, tt)), (e .operands, (e .widths, (fields-kept i h, ((e .keep, (e .word, tt)), tt))))))
 
   check-back : checkOf (encode d) ≡ Accepted (d .count)
   unfolding checkOf refuseAt
@@ -120,7 +120,7 @@ module _ (d : Design) (s : Sound d) where
   unfolding encodeRecord
   record-bytes i h =
       let low = code-low (d .at i .kind) in
-      let wide = s .each i h .width .1 .0 in
+      let wide = s .each i h .narrow in
       let u = usesOf (d .at i .kind) in
       byte-first (omega arith)
       (byte-first (omega arith)

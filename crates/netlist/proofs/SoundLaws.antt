@@ -8,7 +8,7 @@ use native.Mathlib.Nat.{lt-of-lt-of-le}
 use native.Mathlib.Omega.{arith}
 use lib.Dec.{lit<}
 use lib.Pow.{pow-mono}
-use Rattle.netlist.specs.Check.{operandLimit, operandsOf, isOutput, namesRules, operandRules, widthRulesAt, wordRules, widthRange}
+use Rattle.netlist.specs.Check.{maxWidth, operandLimit, operandsOf, isOutput, namesRules, operandRules, widthRulesAt}
 use Rattle.netlist.specs.Kinds.{usesOf, widthRules}
 use Rattle.netlist.specs.Layout.{Design}
 use Rattle.netlist.specs.Rules.{AllHold}
@@ -65,15 +65,15 @@ module _ (d : Design) (s : Sound d) (i : ℕ) (h : i < d .count) where
 
   -- a word within a record's width is a word of 64 bits
   pub word-64 : (x : ℕ) → x < 2 ^ d .at i .width → x < 2 ^ 64
-  word-64 x g = lt-of-lt-of-le g (pow-mono (s .each i h .width .1 .0))
+  word-64 x g = lt-of-lt-of-le g (pow-mono (s .each i h .narrow))
 
 pub k-64 : (d : Design) (s : Sound d) (i : ℕ) (h : i < d .count) → usesOf (d .at i .kind) .k < 2 ^ 64
-unfolding widthRulesAt wordRules
+unfolding widthRulesAt
 k-64 d s i h =
     let u = usesOf (d .at i .kind) in
     let r = s .each i h in
     k-word (d .at i .kind) (d .at i .width) (d .at (u .a) .width) (d .at (u .b) .width) (d .at (u .c) .width) (r .widths)
-    (word-64 d s i h (u .word) (r .words .1 .0)) (s .each (u .a) (operands-below d s i h .a) .width .1 .0)
+    (word-64 d s i h (u .word) (r .word)) (s .each (u .a) (operands-below d s i h .a) .narrow)
 
 -- the operands' rules look only at records below the limit
 names-same : (d e : Design) (limit : ℕ) → ((j : ℕ) → j < limit → d .at j ≡ e .at j) → (js : List ℕ) → AllHold (namesRules d limit js) → AllHold (namesRules e limit js)
@@ -103,9 +103,13 @@ module _ (d e : Design) (same : SameDesign d e) (s : Sound d) (i : ℕ) (h : i <
 
   pub record-same : SoundRecord e i
   record-same =
+      let r = s .each i h in
+      let q = same .each i h in
       record {
-        width = subst (λ (r : Record). AllHold (widthRange (r .width))) (same .each i h) (s .each i h .width);
+        positive = subst (λ (r : Record). 1 ≤ r .width) q (r .positive);
+        narrow = subst (λ (r : Record). r .width ≤ maxWidth) q (r .narrow);
         operands = operands-same;
         widths = widths-same;
-        words = subst (λ (r : Record). AllHold (wordRules r)) (same .each i h) (s .each i h .words);
+        keep = subst (λ (r : Record). r .keep < 2 ^ r .width) q (r .keep);
+        word = subst (λ (r : Record). usesOf (r .kind) .word < 2 ^ r .width) q (r .word);
       }

@@ -2,19 +2,22 @@
 -- Assumes nothing.
 use mathlib.Core.Path.{_≡_}
 use mathlib.Core.List.{List}
-use Prim.Native.Nat.{ℕ, _≤_, _<_}
+use Prim.Native.Nat.{ℕ, _^_, _≤_, _<_}
 use lib.ListN.{length}
-use Rattle.netlist.specs.Check.{maxCount, widthRange, operandRules, widthRulesAt, wordRules}
+use Rattle.netlist.specs.Check.{maxWidth, maxCount, operandRules, widthRulesAt}
+use Rattle.netlist.specs.Kinds.{usesOf}
 use Rattle.netlist.specs.Layout.{Design, designOf, countOf, recordStart}
 use Rattle.netlist.specs.Rules.{AllHold}
 
--- Record i keeps the rules 7 to 10: its width lies within the limits, its operands are in range and no outputs, its kind's
--- width rule holds, and its keep word and the k of a constant or register lie within its width.
+-- What acceptance says of record i: its width lies within the limits, its operands are in range and no outputs, its kind's
+-- width rule holds, and its keep word and the k of a constant or register have no bit at w or above.
 pub record SoundRecord (d : Design) (i : ℕ) : Type 0 where
-  pub width : AllHold (widthRange (d .at i .width))
+  pub positive : 1 ≤ d .at i .width
+  pub narrow : d .at i .width ≤ maxWidth
   pub operands : AllHold (operandRules d i)
   pub widths : AllHold (widthRulesAt d i)
-  pub words : AllHold (wordRules (d .at i))
+  pub keep : d .at i .keep < 2 ^ d .at i .width
+  pub word : usesOf (d .at i .kind) .word < 2 ^ d .at i .width
 
 -- An accepted design.
 pub record Sound (d : Design) : Type 0 where

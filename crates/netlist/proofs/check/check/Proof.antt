@@ -3,7 +3,6 @@
 use mathlib.Core.Path.{sym, ap, _∙_}
 use Prim.Native.Nat.{ℕ}
 use native.Mathlib.Nat.{le-of-eq}
-use borrow.Author.Needs.{needs}
 use denote.Ref.{now}
 use Rattle.netlist.specs.declared.check.Verdict.{Verdict}
 use Rattle.netlist.specs.Layout.{countOf, recordStart}
@@ -13,10 +12,10 @@ use Rattle.netlist.proofs.check.check.Statement.{statement}
 use Rattle.netlist.proofs.check.check.Tie as tie
 
 check-header-requires : tie.Need-check-header-requires
-check-header-requires c κs = search needs
+check-header-requires c κs = tt
 
 enum-told : tie.Need-enum-told
-enum-told c = search needs
+enum-told c = c .match .keys1
 
 record-count-requires : tie.Need-record-count-requires
 unfolding headerRules
@@ -29,7 +28,7 @@ check-records-requires c κs = let file = now (c .before .before .before .before
     (c .record-count .ensures .0, le-of-eq (ap recordStart (c .record-count .ensures .0) ∙ sym (k .1 .1 .1 .1 .0 .0)))
 
 enum-known-r : tie.Need-enum-known-r
-enum-known-r c = search needs
+enum-known-r c = c .match .keys2
 
 returns : tie.Need-returns
 unfolding checkOf refuseAt

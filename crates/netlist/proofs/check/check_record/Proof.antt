@@ -5,7 +5,6 @@ use mathlib.Core.Bool.{and-true}
 use mathlib.Core.List.{List}
 use Prim.Native.Nat.{ℕ, _+_, _≤_}
 use native.Mathlib.Omega.{arith}
-use borrow.Author.Needs.{needs}
 use borrow.Author.Tests.{lt-ltb, le-ltb, not-true, not-false}
 use denote.Ref.{now}
 use lib.Dec.{ltb}
@@ -146,17 +145,17 @@ record-at-requires : tie.Need-record-at-requires
 record-at-requires c κs = omega arith
 
 uses-requires : tie.Need-uses-requires
-uses-requires c κs = search needs
+uses-requires c κs = tt
 
 width-in-range-requires : tie.Need-width-in-range-requires
-width-in-range-requires c κs = search needs
+width-in-range-requires c κs = tt
 
 returns-2 : tie.Need-returns-2
 unfolding Leaves recordRules
 returns-2 c = kind-known (c .before .before .before .before) _ (broken _ _ (sym (width-test (c .before)) ∙ not-true _ (c .if2 .taken)))
 
 operand-limit-requires : tie.Need-operand-limit-requires
-operand-limit-requires c κs = search needs
+operand-limit-requires c κs = tt
 
 operands-fit-requires : tie.Need-operands-fit-requires
 operands-fit-requires c κs = omega (arith, limit-low c, from-2 (c .before) .pre .1)
@@ -175,7 +174,7 @@ width-at-requires-3 : tie.Need-width-at-requires-3
 width-at-requires-3 c κs = operand-low (c .before .before) 2 _ (uses-padded (c .before .before .before .before .before) .third)
 
 widths-fit-requires : tie.Need-widths-fit-requires
-widths-fit-requires c κs = search needs
+widths-fit-requires c κs = tt
 
 returns-4 : tie.Need-returns-4
 unfolding Leaves recordRules
@@ -185,14 +184,14 @@ fields-at-requires : tie.Need-fields-at-requires
 fields-at-requires c κs = let s = from-4 c in omega (arith, s .pre .1, s .pre .2)
 
 fields-fit-requires : tie.Need-fields-fit-requires
-fields-fit-requires c κs = search needs
+fields-fit-requires c κs = tt
 
 returns-5 : tie.Need-returns-5
 unfolding Leaves recordRules
 returns-5 c = widths-right (c .before .before .before) _ (broken _ _ (sym (fields-test (c .before)) ∙ not-true _ (c .if5 .taken)))
 
 words-fit-requires : tie.Need-words-fit-requires
-words-fit-requires c κs = search needs
+words-fit-requires c κs = tt
 
 returns-6 : tie.Need-returns-6
 unfolding Leaves recordRules

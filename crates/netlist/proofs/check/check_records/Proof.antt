@@ -4,7 +4,6 @@ use mathlib.Core.Path.{_≡_, sym, ap, _∙_}
 use Prim.Native.Nat.{ℕ, _+_, _-_, _≤_}
 use native.Mathlib.Nat.{sub-zero}
 use native.Mathlib.Omega.{arith}
-use borrow.Author.Needs.{needs}
 use denote.Ref.{now}
 use Rattle.netlist.specs.declared.check.Checked.the-variants.{Accepted}
 use Rattle.netlist.specs.declared.check.Verdict.{Verdict}
@@ -26,10 +25,10 @@ check-record-requires : tie.Need-check-record-requires Inv-loop μ-loop
 check-record-requires c κs = (c .before .before .before .pre .0, c .before .before .before .pre .1, c .loop-test .taken)
 
 enum-told : tie.Need-enum-told Inv-loop μ-loop
-enum-told c = search needs
+enum-told c = c .match .keys1
 
 enum-known-r : tie.Need-enum-known-r Inv-loop μ-loop
-enum-known-r c = search needs
+enum-known-r c = c .match .keys2
 
 returns : tie.Need-returns Inv-loop μ-loop
 unfolding refuseAt

@@ -18,7 +18,7 @@ keep-at-requires : tie.Need-keep-at-requires
 keep-at-requires c κs = search needs
 
 new-requires : tie.Need-new-requires
-new-requires c κs = search needs
+new-requires c κs = tt
 
 returns : tie.Need-returns
 unfolding recordAt

@@ -1,12 +1,11 @@
 -- `netlist::rules::three_equal` meets its contract: the first test that fails stops, and else the other two decide.
 -- Assumes nothing.
 use borrow.Author.Tests.{eq-eqb, ne-eqb}
-use borrow.Author.Needs.{needs}
 use Rattle.netlist.proofs.rules.three_equal.Statement.{statement}
 use Rattle.netlist.proofs.rules.three_equal.Tie as tie
 
 both-equal-requires : tie.Need-both-equal-requires
-both-equal-requires c κs = search needs
+both-equal-requires c κs = tt
 
 returns : tie.Need-returns
 returns c = simp (eq-eqb _ _ (c .before .if1 .taken)) (c .both-equal .ensures)

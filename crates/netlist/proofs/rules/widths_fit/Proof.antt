@@ -1,92 +1,91 @@
 -- `netlist::rules::widths_fit` meets its contract: each kind has its line in the definition.
 -- Assumes nothing.
-use borrow.Author.Needs.{needs}
 use Rattle.netlist.proofs.rules.widths_fit.Statement.{statement}
 use Rattle.netlist.proofs.rules.widths_fit.Tie as tie
 
 enum-told : tie.Need-enum-told
-enum-told c = search needs
+enum-told c = c .match .keys1
 
 enum-told-2 : tie.Need-enum-told-2
-enum-told-2 c = search needs
+enum-told-2 c = c .match .keys2
 
 enum-told-3 : tie.Need-enum-told-3
-enum-told-3 c = search needs
+enum-told-3 c = c .match .keys3
 
 one-equal-requires : tie.Need-one-equal-requires
-one-equal-requires c κs = search needs
+one-equal-requires c κs = tt
 
 enum-told-4 : tie.Need-enum-told-4
-enum-told-4 c = search needs
+enum-told-4 c = c .match .keys4
 
 one-equal-requires-2 : tie.Need-one-equal-requires-2
-one-equal-requires-2 c κs = search needs
+one-equal-requires-2 c κs = tt
 
 enum-known-kind : tie.Need-enum-known-kind
-enum-known-kind c = search needs
+enum-known-kind c = c .match .keys5
 
 sum-at-most-requires : tie.Need-sum-at-most-requires
-sum-at-most-requires c κs = search needs
+sum-at-most-requires c κs = tt
 
 enum-told-5 : tie.Need-enum-told-5
-enum-told-5 c = search needs
+enum-told-5 c = c .match .keys6
 
 sum-equal-requires : tie.Need-sum-equal-requires
-sum-equal-requires c κs = search needs
+sum-equal-requires c κs = tt
 
 enum-told-6 : tie.Need-enum-told-6
-enum-told-6 c = search needs
+enum-told-6 c = c .match .keys7
 
 both-equal-requires : tie.Need-both-equal-requires
-both-equal-requires c κs = search needs
+both-equal-requires c κs = tt
 
 enum-told-7 : tie.Need-enum-told-7
-enum-told-7 c = search needs
+enum-told-7 c = c .match .keys8
 
 both-equal-requires-2 : tie.Need-both-equal-requires-2
-both-equal-requires-2 c κs = search needs
+both-equal-requires-2 c κs = tt
 
 enum-told-8 : tie.Need-enum-told-8
-enum-told-8 c = search needs
+enum-told-8 c = c .match .keys9
 
 both-equal-requires-3 : tie.Need-both-equal-requires-3
-both-equal-requires-3 c κs = search needs
+both-equal-requires-3 c κs = tt
 
 enum-told-9 : tie.Need-enum-told-9
-enum-told-9 c = search needs
+enum-told-9 c = c .match .keys10
 
 three-equal-requires : tie.Need-three-equal-requires
-three-equal-requires c κs = search needs
+three-equal-requires c κs = tt
 
 enum-told-10 : tie.Need-enum-told-10
-enum-told-10 c = search needs
+enum-told-10 c = c .match .keys11
 
 both-equal-requires-4 : tie.Need-both-equal-requires-4
-both-equal-requires-4 c κs = search needs
+both-equal-requires-4 c κs = tt
 
 enum-told-11 : tie.Need-enum-told-11
-enum-told-11 c = search needs
+enum-told-11 c = c .match .keys12
 
 both-equal-requires-5 : tie.Need-both-equal-requires-5
-both-equal-requires-5 c κs = search needs
+both-equal-requires-5 c κs = tt
 
 enum-told-12 : tie.Need-enum-told-12
-enum-told-12 c = search needs
+enum-told-12 c = c .match .keys13
 
 both-equal-requires-6 : tie.Need-both-equal-requires-6
-both-equal-requires-6 c κs = search needs
+both-equal-requires-6 c κs = tt
 
 enum-told-13 : tie.Need-enum-told-13
-enum-told-13 c = search needs
+enum-told-13 c = c .match .keys14
 
 both-equal-requires-7 : tie.Need-both-equal-requires-7
-both-equal-requires-7 c κs = search needs
+both-equal-requires-7 c κs = tt
 
 enum-told-14 : tie.Need-enum-told-14
-enum-told-14 c = search needs
+enum-told-14 c = c .match .keys15
 
 both-equal-requires-8 : tie.Need-both-equal-requires-8
-both-equal-requires-8 c κs = search needs
+both-equal-requires-8 c κs = tt
 
 returns : tie.Need-returns
 returns c = rw (c .enum-told .given .1)

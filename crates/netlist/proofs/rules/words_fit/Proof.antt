@@ -3,16 +3,15 @@
 use mathlib.Core.Bool.{and-true}
 use mathlib.Core.Path.{sym, _∙_}
 use borrow.Author.Tests.{eq-eqb, ne-eqb}
-use borrow.Author.Needs.{needs}
 use Rattle.netlist.proofs.Tests.{goes-on, stops, short-test}
 use Rattle.netlist.proofs.rules.words_fit.Statement.{statement}
 use Rattle.netlist.proofs.rules.words_fit.Tie as tie
 
 shr-requires : tie.Need-shr-requires
-shr-requires c κs = search needs
+shr-requires c κs = tt
 
 shr-requires-2 : tie.Need-shr-requires-2
-shr-requires-2 c κs = search needs
+shr-requires-2 c κs = tt
 
 returns : tie.Need-returns
 returns c = goes-on (sym (short-test (c .before .before .before .args .x) (c .before .before .before .args .w) (c .before .before .shr .result) (c .before .before .shr .ensures)) ∙ eq-eqb _ _ (c .before .if1 .taken)) (short-test (c .before .before .before .args .y) (c .before .before .before .args .w) (c .shr2 .result) (c .shr2 .ensures) ∙ sym (and-true _))

@@ -1,98 +1,97 @@
 -- `netlist::record::Kind::uses` meets its contract: each kind has its line in the definition.
 -- Assumes nothing.
-use borrow.Author.Needs.{needs}
 use Rattle.netlist.proofs.record.Kind.uses.Statement.{statement}
 use Rattle.netlist.proofs.record.Kind.uses.Tie as tie
 
 enum-told : tie.Need-enum-told
-enum-told c = search needs
+enum-told c = c .match .keys1
 
 none-requires : tie.Need-none-requires
-none-requires c κs = search needs
+none-requires c κs = tt
 
 enum-known-self : tie.Need-enum-known-self
-enum-known-self c = search needs
+enum-known-self c = c .match .keys2
 
 none-requires-2 : tie.Need-none-requires-2
-none-requires-2 c κs = search needs
+none-requires-2 c κs = tt
 
 enum-known-self-2 : tie.Need-enum-known-self-2
-enum-known-self-2 c = search needs
+enum-known-self-2 c = c .match .keys3
 
 one-requires : tie.Need-one-requires
-one-requires c κs = search needs
+one-requires c κs = tt
 
 enum-known-self-3 : tie.Need-enum-known-self-3
-enum-known-self-3 c = search needs
+enum-known-self-3 c = c .match .keys4
 
 one-requires-2 : tie.Need-one-requires-2
-one-requires-2 c κs = search needs
+one-requires-2 c κs = tt
 
 enum-known-self-4 : tie.Need-enum-known-self-4
-enum-known-self-4 c = search needs
+enum-known-self-4 c = c .match .keys5
 
 one-requires-3 : tie.Need-one-requires-3
-one-requires-3 c κs = search needs
+one-requires-3 c κs = tt
 
 enum-known-self-5 : tie.Need-enum-known-self-5
-enum-known-self-5 c = search needs
+enum-known-self-5 c = c .match .keys6
 
 two-requires : tie.Need-two-requires
-two-requires c κs = search needs
+two-requires c κs = tt
 
 enum-known-self-6 : tie.Need-enum-known-self-6
-enum-known-self-6 c = search needs
+enum-known-self-6 c = c .match .keys7
 
 two-requires-2 : tie.Need-two-requires-2
-two-requires-2 c κs = search needs
+two-requires-2 c κs = tt
 
 enum-known-self-7 : tie.Need-enum-known-self-7
-enum-known-self-7 c = search needs
+enum-known-self-7 c = c .match .keys8
 
 two-requires-3 : tie.Need-two-requires-3
-two-requires-3 c κs = search needs
+two-requires-3 c κs = tt
 
 enum-known-self-8 : tie.Need-enum-known-self-8
-enum-known-self-8 c = search needs
+enum-known-self-8 c = c .match .keys9
 
 two-requires-4 : tie.Need-two-requires-4
-two-requires-4 c κs = search needs
+two-requires-4 c κs = tt
 
 enum-known-self-9 : tie.Need-enum-known-self-9
-enum-known-self-9 c = search needs
+enum-known-self-9 c = c .match .keys10
 
 three-requires : tie.Need-three-requires
-three-requires c κs = search needs
+three-requires c κs = tt
 
 enum-known-self-10 : tie.Need-enum-known-self-10
-enum-known-self-10 c = search needs
+enum-known-self-10 c = c .match .keys11
 
 two-requires-5 : tie.Need-two-requires-5
-two-requires-5 c κs = search needs
+two-requires-5 c κs = tt
 
 enum-known-self-11 : tie.Need-enum-known-self-11
-enum-known-self-11 c = search needs
+enum-known-self-11 c = c .match .keys12
 
 two-requires-6 : tie.Need-two-requires-6
-two-requires-6 c κs = search needs
+two-requires-6 c κs = tt
 
 enum-known-self-12 : tie.Need-enum-known-self-12
-enum-known-self-12 c = search needs
+enum-known-self-12 c = c .match .keys13
 
 two-requires-7 : tie.Need-two-requires-7
-two-requires-7 c κs = search needs
+two-requires-7 c κs = tt
 
 enum-known-self-13 : tie.Need-enum-known-self-13
-enum-known-self-13 c = search needs
+enum-known-self-13 c = c .match .keys14
 
 two-requires-8 : tie.Need-two-requires-8
-two-requires-8 c κs = search needs
+two-requires-8 c κs = tt
 
 enum-known-self-14 : tie.Need-enum-known-self-14
-enum-known-self-14 c = search needs
+enum-known-self-14 c = c .match .keys15
 
 two-requires-9 : tie.Need-two-requires-9
-two-requires-9 c κs = search needs
+two-requires-9 c κs = tt
 
 returns : tie.Need-returns
 returns c = rw (c .before .enum-told .given .1) (c .none .ensures)
