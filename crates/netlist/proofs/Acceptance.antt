@@ -17,7 +17,7 @@ use Rattle.netlist.specs.declared.refusal.Refusal.{Refusal}
 use Rattle.netlist.proofs.CheckLaws.{Kept, pass-kept}
 
 -- a step that ends in acceptance passed, and so did what follows
-past-refusal : (i n : ℕ) (v : Verdict) (next : Checked) → refuseAt i v next ≡ Accepted n → (v ≡ Pass) × (next ≡ Accepted n)
+pub past-refusal : (i n : ℕ) (v : Verdict) (next : Checked) → refuseAt i v next ≡ Accepted n → (v ≡ Pass) × (next ≡ Accepted n)
 unfolding refuseAt
 past-refusal i n Pass next e = (refl, e)
 past-refusal i n (Fail r) next e = absurd (let z : _≡_ {A = ℕ} 0 1 = cc in omega arith)
@@ -28,7 +28,7 @@ this-or-later file i j this later (inl e) = subst (λ (k : ℕ). Kept (recordRul
 this-or-later file i j this later (inr h) = later h
 
 -- each record of an accepted file keeps its rules
-each-kept : (file : List ℕ) (n left i : ℕ) → checkFrom file left i ≡ Accepted n → (j : ℕ) → i ≤ j → j < i + left → Kept (recordRules file j)
+pub each-kept : (file : List ℕ) (n left i : ℕ) → checkFrom file left i ≡ Accepted n → (j : ℕ) → i ≤ j → j < i + left → Kept (recordRules file j)
 unfolding checkFrom
 each-kept file n zero i e j h g = absurd (let z : _≡_ {A = ℕ} 0 1 = omega arith in omega arith)
 each-kept file n (suc left) i e j h g =
