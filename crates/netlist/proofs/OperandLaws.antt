@@ -36,12 +36,9 @@ names-cons d limit j js r e =
     ∙ ap (λ (t : Bool). (ltb j limit && t) && testAll (namesRules d limit js)) (sym (and-true (not (isOutput (roleAt d j)))))
     ∙ ap (λ (t : Bool). t && testAll (namesRules d limit js)) (sym e)
 
--- an operand that fails its test, or passes it, before the rest
-fails-cons : (d : Design) (limit j : ℕ) (js : List ℕ) (r : Bool) → Named d limit j r → r ≡ false → testAll (namesRules d limit (j ∷ js)) ≡ false
-fails-cons d limit j js r e p = names-cons d limit j js r e ∙ ap (λ (t : Bool). t && testAll (namesRules d limit js)) p
-
-passes-cons : (d : Design) (limit j : ℕ) (js : List ℕ) (r : Bool) → Named d limit j r → r ≡ true → testAll (namesRules d limit (j ∷ js)) ≡ testAll (namesRules d limit js)
-passes-cons d limit j js r e p = names-cons d limit j js r e ∙ ap (λ (t : Bool). t && testAll (namesRules d limit js)) p
+-- once the first operand's test is known, it stops at a failure and else leaves the answer to the rest
+known-cons : (d : Design) (limit j : ℕ) (js : List ℕ) (r : Bool) → Named d limit j r → (t : Bool) → r ≡ t → testAll (namesRules d limit (j ∷ js)) ≡ (t && testAll (namesRules d limit js))
+known-cons d limit j js r e t p = names-cons d limit j js r e ∙ ap (λ (b : Bool). b && testAll (namesRules d limit js)) p
 
 -- the test of all operands, as far as the count and the tests of the first ones tell it
 module _ (d : Design) (limit : ℕ) (u : Uses) where
@@ -52,31 +49,31 @@ module _ (d : Design) (limit : ℕ) (u : Uses) where
   pub first-fails : (r : Bool) → 1 ≤ u .count → Named d limit (u .a) r → r ≡ false → testAll (namesRules d limit (operandsOf u)) ≡ false
   first-fails r h e p =
       ap (λ (l : List ℕ). testAll (namesRules d limit l)) (by-count u (suc (u .count - 1)) (omega arith))
-      ∙ fails-cons d limit (u .a) (take (u .count - 1) (u .b ∷ u .c ∷ [])) r e p
+      ∙ known-cons d limit (u .a) (take (u .count - 1) (u .b ∷ u .c ∷ [])) r e false p
 
   pub one-used : (r : Bool) → 1 ≤ u .count → u .count < 2 → Named d limit (u .a) r → r ≡ true → testAll (namesRules d limit (operandsOf u)) ≡ true
   unfolding namesRules
   one-used r h g e p =
-      ap (λ (l : List ℕ). testAll (namesRules d limit l)) (by-count u 1 (omega arith)) ∙ passes-cons d limit (u .a) [] r e p
+      ap (λ (l : List ℕ). testAll (namesRules d limit l)) (by-count u 1 (omega arith)) ∙ known-cons d limit (u .a) [] r e true p
 
   module _ (r : Bool) (e : Named d limit (u .a) r) (p : r ≡ true) (s : Bool) (f : Named d limit (u .b) s) where
     pub second-fails : 2 ≤ u .count → s ≡ false → testAll (namesRules d limit (operandsOf u)) ≡ false
     second-fails h q =
         let rest = take (u .count - 2) (u .c ∷ []) in
         ap (λ (l : List ℕ). testAll (namesRules d limit l)) (by-count u (suc (suc (u .count - 2))) (omega arith))
-        ∙ passes-cons d limit (u .a) (u .b ∷ rest) r e p ∙ fails-cons d limit (u .b) rest s f q
+        ∙ known-cons d limit (u .a) (u .b ∷ rest) r e true p ∙ known-cons d limit (u .b) rest s f false q
 
     pub two-used : 2 ≤ u .count → u .count < 3 → s ≡ true → testAll (namesRules d limit (operandsOf u)) ≡ true
     unfolding namesRules
     two-used h g q =
         ap (λ (l : List ℕ). testAll (namesRules d limit l)) (by-count u 2 (omega arith))
-        ∙ passes-cons d limit (u .a) (u .b ∷ []) r e p ∙ passes-cons d limit (u .b) [] s f q
+        ∙ known-cons d limit (u .a) (u .b ∷ []) r e true p ∙ known-cons d limit (u .b) [] s f true q
 
     pub three-used : (t : Bool) → 3 ≤ u .count → s ≡ true → Named d limit (u .c) t → testAll (namesRules d limit (operandsOf u)) ≡ t
     unfolding namesRules
     three-used t h q g =
         ap (λ (l : List ℕ). testAll (namesRules d limit l)) (all-three u h)
-        ∙ passes-cons d limit (u .a) (u .b ∷ u .c ∷ []) r e p ∙ passes-cons d limit (u .b) (u .c ∷ []) s f q
+        ∙ known-cons d limit (u .a) (u .b ∷ u .c ∷ []) r e true p ∙ known-cons d limit (u .b) (u .c ∷ []) s f true q
         ∙ sym g
 
 -- operands that pass lie below the limit; so does the 0 that stands for an unused one

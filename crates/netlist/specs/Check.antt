@@ -130,6 +130,6 @@ unfoldable pub checkFrom : List ℕ → ℕ → ℕ → Checked
 checkFrom file zero i = Accepted (countOf file)
 checkFrom file (suc left) i = refuseAt i (firstBroken (recordRules file i)) (checkFrom file left (suc i))
 
--- The answer of check. "The record is 0 outside 6 to 10".
+-- The answer of check: "the record is 0 outside 6 to 10 and 12", of which 12 is no refusal of a file.
 unfoldable pub checkOf : List ℕ → Checked
 checkOf file = refuseAt 0 (firstBroken (headerRules file)) (checkFrom file (countOf file) 0)

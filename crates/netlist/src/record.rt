@@ -1,5 +1,5 @@
 // A record of a netlist: its kind with the operands that the kind uses, and beside it the width and the keep word.
-// All that the code knows of a kind stands here and in `rules::widths_fit`.
+// What the code knows of a kind stands here and in `rules`: the width rules, and the number of an output in `names`.
 ghost use mathlib.Core.Path.{_≡_};
 ghost use Rattle.netlist.specs.Kinds.{kindOf, usesOf, none, one, two, three};
 
