@@ -1,0 +1,4 @@
+-- What the crates above may cite: the laws of the care rules.
+-- Assumes nothing.
+pub mod Reading
+pub mod RuleLaws

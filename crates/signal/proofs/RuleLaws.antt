@@ -1,0 +1,113 @@
+-- The laws of the care rules, kind by kind: what is asked grows with D, and it stays within the operands' widths.
+-- Assumes nothing. The crates above use these laws and look at no kind.
+use mathlib.Core.Path.{_≡_, sym, ap, subst}
+use mathlib.Core.Bool.{Bool, cond}
+use Prim.Native.Nat.{ℕ, zero, suc, _^_, _≤_, _<_}
+use native.Mathlib.Nat.{mod-lt}
+use native.Mathlib.Omega.{arith}
+use lib.Bits.{bitAnd}
+use lib.Dec.{eqb·suc-zero}
+use lib.Pow.{pow-pos}
+use Rattle.bits.specs.Masks.{Within}
+use Rattle.bits.specs.Words.{lowMask}
+use Rattle.bits.proofs.Order.{within-refl, within-trans, within-zero, within-le, within-low, within-lt, low-mono, meet-right, meet-mono}
+use Rattle.bits.proofs.Shifts.{cut-mono, up-mono, up-lt, down-mono, down-lt, length-le, length-low-mono}
+use Rattle.netlist.specs.Check.{maxWidth, widthRulesAt}
+use Rattle.netlist.specs.Kinds.{usesOf, widthRules}
+use Rattle.netlist.specs.Layout.{Design}
+use Rattle.netlist.specs.Rules.{AllHold}
+use Rattle.netlist.specs.Sound.{Sound}
+use Rattle.netlist.specs.declared.record.Kind.{Kind}
+use Rattle.netlist.specs.declared.record.Kind.the-variants.{Input, Constant, Register, Output, Extract, Concat, And, Or, Xor, Mux, Add, Sub, Mul, Equal, Below}
+use Rattle.netlist.specs.declared.record.Record.{Record}
+use Rattle.netlist.proofs.SoundLaws.{OperandsBelow, operands-below, word-64}
+use Rattle.signal.specs.Asks.{upToHighest, allIfAny, asksOf, caredOf, asked, Granted, Fit}
+
+-- all bits if D is not 0: more of D asks for no less
+any-all : (w D : ℕ) → allIfAny w (suc D) ≡ lowMask w
+any-all w D = ap (λ (t : Bool). cond t 0 (lowMask w)) (eqb·suc-zero D)
+
+any-within : (w D : ℕ) → Within (allIfAny w D) (lowMask w)
+any-within w zero = within-zero (lowMask w)
+any-within w (suc D) = rw (any-all w D) (within-refl (lowMask w))
+
+any-mono : (w D E : ℕ) → Within D E → Within (allIfAny w D) (allIfAny w E)
+any-mono w zero E h = within-zero (allIfAny w E)
+any-mono w (suc D) zero h = absurd (let l = within-le h in omega arith)
+any-mono w (suc D) (suc E) h = rw (any-all w E) (any-within w (suc D))
+
+-- what is asked with D is granted where what is asked with more is granted
+module _ (at : ℕ → Record) (M : ℕ → ℕ) {D E : ℕ} (h : Within D E) (low : E < 2 ^ 64) where
+  carry : {m : ℕ} → Within (upToHighest E) m → Within (upToHighest D) m
+  carry g = within-trans (length-low-mono h low) g
+
+  any : (w : ℕ) {m : ℕ} → Within (allIfAny w E) m → Within (allIfAny w D) m
+  any w g = within-trans (any-mono w D E h) g
+
+  pub asks-grow : (kind : Kind) → Granted (asksOf at kind E) M → Granted (asksOf at kind D) M
+  asks-grow Input g = tt
+  asks-grow (Constant k) g = tt
+  asks-grow (Register a k) g = (within-trans h (g .0), tt)
+  asks-grow (Output a) g = (within-trans h (g .0), tt)
+  asks-grow (Extract a k) g = (within-trans (up-mono k h) (g .0), tt)
+  asks-grow (Concat a b) g = (within-trans (down-mono (at b .width) h) (g .0), (within-trans (cut-mono (at b .width) h) (g .1 .0), tt))
+  asks-grow (And a b) g = (within-trans h (g .0), (within-trans h (g .1 .0), tt))
+  asks-grow (Or a b) g = (within-trans h (g .0), (within-trans h (g .1 .0), tt))
+  asks-grow (Xor a b) g = (within-trans h (g .0), (within-trans h (g .1 .0), tt))
+  asks-grow (Mux a b c) g = (g .0, (within-trans h (g .1 .0), (within-trans h (g .1 .1 .0), tt)))
+  asks-grow (Add a b) g = (carry (g .0), (carry (g .1 .0), tt))
+  asks-grow (Sub a b) g = (carry (g .0), (carry (g .1 .0), tt))
+  asks-grow (Mul a b) g = (carry (g .0), (carry (g .1 .0), tt))
+  asks-grow (Equal a b) g = (any (at a .width) (g .0), (any (at b .width) (g .1 .0), tt))
+  asks-grow (Below a b) g = (any (at a .width) (g .0), (any (at b .width) (g .1 .0), tt))
+
+-- what is asked with a D within the record's width names records of the design and stays within their widths
+module _ (d : Design) (w D : ℕ) (h : D < 2 ^ w) where
+  same-width : (j : ℕ) → d .at j .width ≡ w → Within D (lowMask (d .at j .width))
+  same-width j e = within-low (d .at j .width) (subst (λ (v : ℕ). D < 2 ^ v) (sym e) h)
+
+  low-bits : (j : ℕ) → d .at j .width ≡ w → Within (upToHighest D) (lowMask (d .at j .width))
+  low-bits j e = low-mono (let l = length-le w h in omega arith)
+
+  pub asks-fit : (kind : Kind) → OperandsBelow (usesOf kind) (d .count) → d .at (usesOf kind .a) .width ≤ maxWidth
+      → AllHold (widthRules kind w (d .at (usesOf kind .a) .width) (d .at (usesOf kind .b) .width) (d .at (usesOf kind .c) .width))
+      → Fit d (asksOf (d .at) kind D)
+  asks-fit Input o n r = tt
+  asks-fit (Constant k) o n r = tt
+  asks-fit (Register a k) o n r = (o .a, same-width a (r .0), tt)
+  asks-fit (Output a) o n r = (o .a, same-width a (r .0), tt)
+  asks-fit (Extract a k) o n r = (o .a, within-low (d .at a .width) (up-lt w k (d .at a .width) h (omega arith) n), tt)
+  asks-fit (Concat a b) o n r = (
+    o .a,
+    within-low (d .at a .width) (down-lt (d .at a .width) (d .at b .width) (subst (λ (v : ℕ). D < 2 ^ v) (sym (r .0)) h)),
+    (o .b, within-low (d .at b .width) (mod-lt D (pow-pos (d .at b .width))), tt),
+  )
+  asks-fit (And a b) o n r = (o .a, same-width a (r .0), (o .b, same-width b (r .1 .0), tt))
+  asks-fit (Or a b) o n r = (o .a, same-width a (r .0), (o .b, same-width b (r .1 .0), tt))
+  asks-fit (Xor a b) o n r = (o .a, same-width a (r .0), (o .b, same-width b (r .1 .0), tt))
+  asks-fit (Mux a b c) o n r = (
+    o .a,
+    subst (λ (v : ℕ). Within 1 (lowMask v)) (sym (r .0)) (within-refl 1),
+    (o .b, same-width b (r .1 .0), (o .c, same-width c (r .1 .1 .0), tt)),
+  )
+  asks-fit (Add a b) o n r = (o .a, low-bits a (r .0), (o .b, low-bits b (r .1 .0), tt))
+  asks-fit (Sub a b) o n r = (o .a, low-bits a (r .0), (o .b, low-bits b (r .1 .0), tt))
+  asks-fit (Mul a b) o n r = (o .a, low-bits a (r .0), (o .b, low-bits b (r .1 .0), tt))
+  asks-fit (Equal a b) o n r = (o .a, any-within (d .at a .width) D, (o .b, any-within (d .at b .width) D, tt))
+  asks-fit (Below a b) o n r = (o .a, any-within (d .at a .width) D, (o .b, any-within (d .at b .width) D, tt))
+
+-- the two laws for the records of a sound design
+module _ (d : Design) (s : Sound d) (i : ℕ) (h : i < d .count) where
+  pub asked-grow : (M : ℕ → ℕ) {m n : ℕ} → Within m n → Granted (asked (d .at) i n) M → Granted (asked (d .at) i m) M
+  unfolding asked
+  asked-grow M {m} {n} g granted =
+      asks-grow (d .at) M (meet-mono (d .at i .keep) g)
+      (word-64 d s i h (bitAnd n (d .at i .keep)) (within-lt (d .at i .width) (meet-right n (d .at i .keep)) (s .each i h .keep)))
+      (d .at i .kind) granted
+
+  pub asked-fit : (m : ℕ) → Fit d (asked (d .at) i m)
+  unfolding asked widthRulesAt
+  asked-fit m =
+      let o = operands-below d s i h in
+      asks-fit d (d .at i .width) (caredOf (d .at i) m) (within-lt (d .at i .width) (meet-right m (d .at i .keep)) (s .each i h .keep)) (d .at i .kind) o
+      (s .each (usesOf (d .at i .kind) .a) (o .a) .narrow) (s .each i h .widths)

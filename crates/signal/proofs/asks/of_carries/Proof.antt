@@ -1,0 +1,15 @@
+use borrow.Author.Needs.{needs}
+use Rattle.signal.proofs.asks.of_carries.Statement.{statement}
+use Rattle.signal.proofs.asks.of_carries.Tie as tie
+
+up-to-highest-requires : tie.Need-up-to-highest-requires
+up-to-highest-requires c κs = search needs
+
+two-requires : tie.Need-two-requires
+two-requires c κs = search needs
+
+returns : tie.Need-returns
+returns c = rw (← c .before .up-to-highest .ensures) (c .two .ensures)
+
+pub of-carries-spec : {M : Type 1} → statement M
+of-carries-spec = tie.close (tie.spec up-to-highest-requires two-requires returns)

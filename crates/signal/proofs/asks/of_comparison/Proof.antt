@@ -1,0 +1,19 @@
+use borrow.Author.Needs.{needs}
+use Rattle.signal.proofs.asks.of_comparison.Statement.{statement}
+use Rattle.signal.proofs.asks.of_comparison.Tie as tie
+
+all-if-any-requires : tie.Need-all-if-any-requires
+all-if-any-requires c κs = search needs
+
+all-if-any-requires-2 : tie.Need-all-if-any-requires-2
+all-if-any-requires-2 c κs = search needs
+
+two-requires : tie.Need-two-requires
+two-requires c κs = search needs
+
+returns : tie.Need-returns
+returns c = rw (← c .before .before .all-if-any .ensures, ← c .before .all-if-any2 .ensures) (c .two .ensures)
+
+pub of-comparison-spec : {M : Type 1} → statement M
+of-comparison-spec =
+    tie.close (tie.spec all-if-any-requires all-if-any-requires-2 two-requires returns)

@@ -1,0 +1,85 @@
+-- The care rules: what a record asks of its operands, kind by kind.
+-- Assumes nothing.
+use mathlib.Core.Bool.{cond}
+use mathlib.Core.List.{List, [], _∷_}
+use Prim.Native.Nat.{ℕ, _+_, _≤_, _<_, _^_}
+use lib.Bits.{bitAnd}
+use lib.Dec.{eqb}
+use lib.ListN.{length, take}
+use Rattle.bits.specs.Masks.{Within}
+use Rattle.bits.specs.Words.{lowMask, cut, up, down, bitLength}
+use Rattle.netlist.specs.Check.{maxWidth}
+use Rattle.netlist.specs.Kinds.{usesOf}
+use Rattle.netlist.specs.Layout.{Design, designOf, recordStart, recordSize}
+use Rattle.netlist.specs.declared.record.Kind.{Kind}
+use Rattle.netlist.specs.declared.record.Kind.the-variants.{Input, Constant, Register, Output, Extract, Concat, And, Or, Xor, Mux, Add, Sub, Mul, Equal, Below}
+use Rattle.netlist.specs.declared.record.Record.{Record}
+use Rattle.signal.specs.declared.asks.Ask.{Ask}
+use Rattle.signal.specs.declared.asks.Asks.{Asks}
+
+-- An operand has a mask: this is asked of it.
+abbrev pub ask : ℕ → ℕ → Ask
+ask operand mask = record { operand = operand; mask = mask }
+
+-- "every bit from 0 to the highest one in D, and nothing if D is 0"
+abbrev pub upToHighest : ℕ → ℕ
+upToHighest D = lowMask (bitLength D)
+
+-- "all bits if D is not 0, and nothing if it is", for an operand of w bits
+abbrev pub allIfAny : ℕ → ℕ → ℕ
+allIfAny w D = cond (eqb D 0) 0 (lowMask w)
+
+-- What a record of a kind asks of which operand, with D as 01 defines it. `at` gives the record of each number.
+abbrev pub asksOf : (ℕ → Record) → Kind → ℕ → List Ask
+asksOf at Input D = []
+asksOf at (Constant k) D = []
+-- "a register's a has D"
+asksOf at (Register a k) D = ask a D ∷ []
+-- "an output's a has D"
+asksOf at (Output a) D = ask a D ∷ []
+-- "extract: a has D moved up by l places, l being k"
+asksOf at (Extract a k) D = ask a (up k D) ∷ []
+-- "concat: b has the low W(b) bits of D, and a the rest"
+asksOf at (Concat a b) D = ask a (down (at b .width) D) ∷ ask b (cut (at b .width) D) ∷ []
+-- "and, or, xor: both operands have D"
+asksOf at (And a b) D = ask a D ∷ ask b D ∷ []
+asksOf at (Or a b) D = ask a D ∷ ask b D ∷ []
+asksOf at (Xor a b) D = ask a D ∷ ask b D ∷ []
+-- "mux: the selector always has its bit, as in figure 6; b and c have D"
+asksOf at (Mux a b c) D = ask a 1 ∷ ask b D ∷ ask c D ∷ []
+-- "add, sub, mul: both have every bit from 0 to the highest one in D, and nothing if D is 0"
+asksOf at (Add a b) D = ask a (upToHighest D) ∷ ask b (upToHighest D) ∷ []
+asksOf at (Sub a b) D = ask a (upToHighest D) ∷ ask b (upToHighest D) ∷ []
+asksOf at (Mul a b) D = ask a (upToHighest D) ∷ ask b (upToHighest D) ∷ []
+-- "equal, below: both have all bits if D is not 0, and nothing if it is"
+asksOf at (Equal a b) D = ask a (allIfAny (at a .width) D) ∷ ask b (allIfAny (at b .width) D) ∷ []
+asksOf at (Below a b) D = ask a (allIfAny (at a .width) D) ∷ ask b (allIfAny (at b .width) D) ∷ []
+
+-- "D(x) is M(x) and its keep word, bit by bit."
+abbrev pub caredOf : Record → ℕ → ℕ
+caredOf r m = bitAnd m (r .keep)
+
+-- What record i asks when its mask is m.
+unfoldable pub asked : (ℕ → Record) → ℕ → ℕ → List Ask
+asked at i m = asksOf at (at i .kind) (caredOf (at i) m)
+
+-- A family of masks grants what is asked: each operand's mask has all the bits asked of it.
+abbrev pub Granted : List Ask → (ℕ → ℕ) → Type 0
+Granted [] M = Unit {0}
+Granted (x ∷ xs) M = Within (x .mask) (M (x .operand)) × Granted xs M
+
+-- Each ask names a record of the design and stays within its width.
+abbrev pub Fit : Design → List Ask → Type 0
+Fit d [] = Unit {0}
+Fit d (x ∷ xs) = (x .operand < d .count) × Within (x .mask) (lowMask (d .at (x .operand) .width)) × Fit d xs
+
+-- The asks that the code's struct holds.
+abbrev pub listed : Asks → List Ask
+listed r = take (r .count) (r .first ∷ r .second ∷ r .third ∷ [])
+
+-- The file holds the first two operands of a kind, and they are words of at most 64 bits.
+pub record Readable (file : List ℕ) (kind : Kind) : Type 0 where
+  pub first : recordStart (usesOf kind .a) + recordSize ≤ length file
+  pub second : recordStart (usesOf kind .b) + recordSize ≤ length file
+  pub narrow-first : designOf file .at (usesOf kind .a) .width ≤ maxWidth
+  pub narrow-second : designOf file .at (usesOf kind .b) .width ≤ maxWidth

@@ -1,0 +1,3 @@
+-- What one record means: what it asks of its operands.
+-- Assumes nothing.
+pub mod Asks
