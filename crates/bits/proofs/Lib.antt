@@ -10,3 +10,4 @@ pub mod Shifts
 pub mod Agreement
 pub mod Congruence
 pub mod Growth
+pub mod ListLaws

@@ -10,7 +10,7 @@ use Rattle.netlist.specs.Rules.{Rule, equal, below, atMost, isNot, testA
 use Rattle.netlist.specs.declared.check.Checked.{Checked}
 use Rattle.netlist.specs.declared.check.Checked.the-variants.{Accepted, Refused}
 use Rattle.netlist.specs.declared.refusal.Refusal.{Refusal}
-use Rattle.netlist.specs.declared.refusal.Refusal.the-variants.{TooShort, BadMark, BadVersion, TooManyRecords, BadLength, BadKind, BadWidth, BadOperand, BadWidthRule, UnusedBit}
+use Rattle.netlist.specs.declared.refusal.Refusal.the-variants.{TooShort, BadMark, BadVersion, TooManyRecords, BadLength, BadKind, BadWidth, BadOperand, BadWidthRule, UnusedBit, BadList}
 use Rattle.netlist.specs.declared.check.Verdict.{Verdict}
 use Rattle.netlist.specs.declared.check.Verdict.the-variants.{Pass, Fail}
 use Rattle.netlist.specs.declared.record.Fields.{Fields}
@@ -41,6 +41,7 @@ numberOf BadWidth = 7
 numberOf BadOperand = 8
 numberOf BadWidthRule = 9
 numberOf UnusedBit = 10
+numberOf BadList = 11
 
 -- 2: "The mark is not `PCN`, or byte 5 is not zero."
 abbrev pub markRules : List ℕ → List Rule

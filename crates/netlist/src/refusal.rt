@@ -1,4 +1,4 @@
-// Why a file is refused, and the number of each refusal.
+// Why a call is refused, and the number of each refusal.
 // Nothing is asked of a caller.
 ghost use mathlib.Core.Path.{_≡_};
 ghost use Prim.Native.Nat.{_<_};
@@ -15,6 +15,7 @@ pub enum Refusal {
     BadOperand,
     BadWidthRule,
     UnusedBit,
+    BadList,
 }
 
 impl Refusal {
@@ -33,6 +34,7 @@ impl Refusal {
             Refusal::BadOperand => 8,
             Refusal::BadWidthRule => 9,
             Refusal::UnusedBit => 10,
+            Refusal::BadList => 11,
         }
     }
 }

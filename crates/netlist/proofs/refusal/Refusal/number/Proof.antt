@@ -34,6 +34,9 @@ enum-told-9 c = c .match .keys9
 enum-told-10 : tie.Need-enum-told-10
 enum-told-10 c = c .match .keys10
 
+enum-told-11 : tie.Need-enum-told-11
+enum-told-11 c = c .match .keys11
+
 returns : tie.Need-returns
 returns c = (rw (c .enum-told .given .1), lit< tt)
 
@@ -64,6 +67,9 @@ returns-9 c = (rw (c .enum-told9 .given .1), lit< tt)
 returns-10 : tie.Need-returns-10
 returns-10 c = (rw (c .enum-told10 .given .1), lit< tt)
 
+returns-11 : tie.Need-returns-11
+returns-11 c = (rw (c .enum-told11 .given .1), lit< tt)
+
 pub number-spec : {M : Type 1} → statement M
 number-spec =
     tie.close
@@ -78,6 +84,7 @@ number-spec =
     enum-told-8
     enum-told-9
     enum-told-10
+    enum-told-11
     returns
     returns-2
     returns-3
@@ -87,4 +94,5 @@ number-spec =
     returns-7
     returns-8
     returns-9
-    returns-10)
+    returns-10
+    returns-11)

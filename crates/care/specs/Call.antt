@@ -1,0 +1,41 @@
+-- The operation `masks`: its answer and the mask list afterwards, refused calls included.
+-- Assumes nothing.
+use mathlib.Core.Bool.{cond}
+use mathlib.Core.List.{List}
+use Prim.Native.Nat.{ℕ}
+use lib.Dec.{eqb}
+use lib.ListN.{length}
+use Rattle.netlist.specs.Check.{checkOf}
+use Rattle.netlist.specs.Layout.{Design, designOf}
+use Rattle.netlist.specs.declared.check.Checked.{Checked}
+use Rattle.netlist.specs.declared.check.Checked.the-variants.{Accepted, Refused}
+use Rattle.netlist.specs.declared.refusal.Refusal.{Refusal}
+use Rattle.netlist.specs.declared.refusal.Refusal.the-variants.{BadList}
+use Rattle.care.specs.Least.{widthSum, onesSum, masksOf}
+use Rattle.care.specs.declared.tally.Tallied.{Tallied}
+use Rattle.care.specs.declared.tally.Tallied.the-variants.{Tally, Refused as refused}
+
+-- What a call answers, and the mask list that it leaves.
+pub record MasksCall : Type 0 where
+  pub answer : Tallied
+  pub list : List ℕ
+
+-- "Masks and trim answer with the tally, two numbers: the sum of all widths, and the count of ones over all masks."
+abbrev pub tallyOf : Design → List ℕ → Tallied
+tallyOf d masks = Tally (widthSum d) (onesSum d masks)
+
+-- A refused call: "No lent word or byte changes."
+abbrev pub refuse : Refusal → ℕ → List ℕ → MasksCall
+refuse r i list = record { answer = refused r i; list = list }
+
+-- An accepted call fills the list with the masks.
+abbrev pub fillMasks : Design → MasksCall
+fillMasks d = record { answer = tallyOf d (masksOf d); list = masksOf d }
+
+-- 11: "A mask, board or next list has not n words."
+unfoldable pub masksAfter : Checked → Design → List ℕ → MasksCall
+masksAfter (Accepted n) d list = cond (eqb (length list) n) (fillMasks d) (refuse BadList 0 list)
+masksAfter (Refused r i) d list = refuse r i list
+
+unfoldable pub masksCall : List ℕ → List ℕ → MasksCall
+masksCall file list = masksAfter (checkOf file) (designOf file) list

@@ -1,0 +1,67 @@
+-- What the functions below `raise` promise to each other. No public promise mentions it.
+-- Assumes nothing.
+use mathlib.Core.Path.{_≡_}
+use mathlib.Core.Bool.{cond, not, _&&_}
+use mathlib.Core.List.{List, [], _∷_}
+use Prim.Native.Nat.{ℕ, suc, _+_, _≤_, _<_, min}
+use lib.Bits.{bitOr}
+use lib.Dec.{eqb, leb}
+use lib.ListN.{length, set}
+use Rattle.bits.specs.Masks.{Within}
+use Rattle.bits.specs.Words.{lowMask}
+use Rattle.netlist.specs.Layout.{Design, designOf, countOf}
+use Rattle.netlist.specs.Sound.{Acceptance}
+use Rattle.signal.specs.Asks.{asked, Granted}
+use Rattle.signal.specs.declared.asks.Ask.{Ask}
+use Rattle.care.specs.Least.{Closed, maskAt, onesSum}
+
+-- A list has a mask for each record, within its width.
+pub record Fits (d : Design) (masks : List ℕ) : Type 0 where
+  pub size : length masks ≡ d .count
+  pub narrow : (i : ℕ) → i < d .count → Within (maskAt masks i) (lowMask (d .at i .width))
+
+-- Each ask names one of n records.
+abbrev pub Named : ℕ → List Ask → Type 0
+Named n [] = Unit {0}
+Named n (x ∷ xs) = (x .operand < n) × Named n xs
+
+-- The list with one ask joined to it.
+abbrev pub joined : List ℕ → Ask → List ℕ
+joined masks x = set masks (x .operand) (bitOr (maskAt masks (x .operand)) (x .mask))
+
+-- One more than the highest record that a sweep standing at record i has to come back to: `again` so far, then a record at i or
+-- above whose mask changes from `old` to `new`.
+abbrev pub markOf : ℕ → ℕ → ℕ → ℕ → ℕ → ℕ
+markOf i again at old new = cond (leb i at && (leb again at && not (eqb old new))) (suc at) again
+
+-- The same for a list to which an ask is joined, and for several asks one after the other.
+abbrev pub markFor : ℕ → ℕ → List ℕ → Ask → ℕ
+markFor i again masks x = markOf i again (x .operand) (maskAt masks (x .operand)) (bitOr (maskAt masks (x .operand)) (x .mask))
+
+unfoldable pub marksOf : ℕ → ℕ → List Ask → List ℕ → ℕ
+marksOf i again [] masks = again
+marksOf i again (x ∷ xs) masks = marksOf i (markFor i again masks x) xs (joined masks x)
+
+-- One list lies above another, and below every closed family above that.
+pub record Between (d : Design) (low masks : List ℕ) : Type 0 where
+  pub size : length masks ≡ length low
+  pub above : (i : ℕ) → Within (maskAt low i) (maskAt masks i)
+  pub below : (F : ℕ → ℕ) → Closed d (maskAt low) F → (i : ℕ) → Within (maskAt masks i) (F i)
+
+-- All that record i asks under a list of masks is granted.
+abbrev pub Settled : Design → List ℕ → ℕ → Type 0
+Settled d masks i = Granted (asked (d .at) i (maskAt masks i)) (maskAt masks)
+
+-- A sweep may start at `top`: the file is accepted, and the records from `top` on are settled.
+pub record Ready (file masks : List ℕ) (top : ℕ) : Type 0 where
+  pub accepted : Acceptance file (countOf file)
+  pub fits : Fits (designOf file) masks
+  pub low : top ≤ countOf file
+  pub settled : (i : ℕ) → top ≤ i → i < countOf file → Settled (designOf file) masks i
+
+-- What a sweep does: the records from `again` on are settled, and if one is left that may not be, a bit was added.
+pub record Swept (d : Design) (before after : List ℕ) (again : ℕ) : Type 0 where
+  pub between : Between d before after
+  pub settled : (i : ℕ) → again ≤ i → i < d .count → Settled d after i
+  pub low : again ≤ d .count
+  pub gained : onesSum d before + min 1 again ≤ onesSum d after

@@ -1,0 +1,83 @@
+// The operation `masks`: fills a lent list with the masks of a file's design and answers with their tally.
+// `masks` asks nothing of its caller; the functions below it ask for an accepted file and a list of n words.
+use crate::sweep::raise;
+use crate::tally::Tallied;
+use crate::tally::tally;
+use bits::mask::low_mask;
+use netlist::check::Checked;
+use netlist::check::check;
+use netlist::layout::record_at;
+use netlist::record::Role;
+use netlist::refusal::Refusal;
+ghost use mathlib.Core.Path.{_≡_};
+ghost use Prim.Native.Nat.{_≤_, _<_};
+ghost use lib.ListN.{length};
+ghost use Rattle.bits.specs.Lists.{wordsOf};
+ghost use Rattle.netlist.specs.Layout.{designOf, countOf};
+ghost use Rattle.netlist.specs.Sound.{Acceptance};
+ghost use Rattle.care.specs.Call.{fillMasks, masksCall};
+ghost use Rattle.care.specs.Least.{outputSeed, seedOf};
+
+// All w bits for an output, and none for another record.
+fn seed_of(role: Role, w: u64) -> u64
+    requires { ⌜ w ≤ 64 ⌝ }
+    ensures { λ r. ⌜ r ≡ seedOf role w ⌝ }
+{
+    match role {
+        Role::Input => 0,
+        Role::Register { a: _, k: _ } => 0,
+        Role::Output => low_mask(w),
+        Role::Gate => 0,
+    }
+}
+
+// The mask that record i has before anything is asked of it.
+fn seed_at(file: &[u8], i: usize) -> u64
+    requires { ⌜ Acceptance (now file) (countOf (now file)) × (i < countOf (now file)) ⌝ }
+    ensures { λ r. ⌜ r ≡ outputSeed (designOf (now (file .entry))) i ⌝ }
+{
+    let record = record_at(file, i);
+    let kind = record.kind;
+    let uses = kind.uses();
+    let role = uses.role;
+    seed_of(role, record.width)
+}
+
+// Fills a list with the seed.
+fn seed(file: &[u8], list: &mut [u64])
+    requires { ⌜ Acceptance (now file) (countOf (now file)) × (length (now list) ≡ countOf (now file)) ⌝ }
+    ensures { λ r. ⌜ now (list .exit) ≡ wordsOf (outputSeed (designOf (now (file .entry)))) (countOf (now (file .entry))) ⌝ }
+{
+    let mut i: usize = 0;
+    while i < list.len() {
+        list[i] = seed_at(file, i);
+        i += 1;
+    }
+}
+
+// Fills a list with the masks of an accepted file.
+pub fn fill(file: &[u8], list: &mut [u64]) -> Tallied
+    requires { ⌜ Acceptance (now file) (countOf (now file)) × (length (now list) ≡ countOf (now file)) ⌝ }
+    ensures answer { λ r. ⌜ r ≡ fillMasks (designOf (now (file .entry))) .answer ⌝ }
+    ensures list { λ r. ⌜ now (list .exit) ≡ fillMasks (designOf (now (file .entry))) .list ⌝ }
+{
+    seed(file, list);
+    raise(file, list);
+    tally(file, list)
+}
+
+// The masks of a file's design in a list of n words, and their tally.
+pub fn masks(file: &[u8], list: &mut [u64]) -> Tallied
+    ensures answer { λ r. ⌜ r ≡ masksCall (now (file .entry)) (now (list .entry)) .answer ⌝ }
+    ensures list { λ r. ⌜ now (list .exit) ≡ masksCall (now (file .entry)) (now (list .entry)) .list ⌝ }
+{
+    match check(file) {
+        Checked::Accepted(n) => {
+            if list.len() != n {
+                return Tallied::Refused(Refusal::BadList, 0);
+            }
+            fill(file, list)
+        }
+        Checked::Refused(r, i) => Tallied::Refused(r, i),
+    }
+}

@@ -1,0 +1,94 @@
+// Backward sweeps over the records, until one adds no bit that an earlier record has to pass on.
+// A caller has an accepted file and a list with a mask within the width of each record.
+use signal::asks::Ask;
+use signal::asks::Asks;
+use signal::asks::asked;
+ghost use mathlib.Core.Path.{_≡_};
+ghost use Prim.Native.Nat.{_+_, _<_, _^_};
+ghost use lib.ListN.{length};
+ghost use Rattle.netlist.specs.Layout.{designOf, countOf};
+ghost use Rattle.netlist.specs.Sound.{Acceptance};
+ghost use Rattle.signal.specs.Asks.{listed};
+ghost use Rattle.care.specs.Least.{grant, leastAbove};
+ghost use Rattle.care.specs.Sweep.{Fits, Named, joined, markOf, markFor, marksOf, Ready, Swept};
+
+// How far the next sweep has to go up, after the mask of record `at` changed from old to new while the sweep stood at i.
+fn mark(i: usize, again: usize, at: usize, old: u64, new: u64) -> usize
+    requires { ⌜ at + 1 < 2 ^ 64 ⌝ }
+    ensures { λ r. ⌜ r ≡ markOf i again at old new ⌝ }
+{
+    if at < i {
+        return again;
+    }
+    if at < again {
+        return again;
+    }
+    if old == new {
+        return again;
+    }
+    at + 1
+}
+
+// Joins a mask that is asked of an operand to the operand's own.
+fn join(list: &mut [u64], ask: Ask, i: usize, again: usize) -> usize
+    requires { ⌜ ask .operand < length (now list) ⌝ }
+    ensures list { λ r. ⌜ now (list .exit) ≡ joined (now (list .entry)) ask ⌝ }
+    ensures mark { λ r. ⌜ r ≡ markFor i again (now (list .entry)) ask ⌝ }
+{
+    let at = ask.operand;
+    let old = list[at];
+    let new = old | ask.mask;
+    list[at] = new;
+    mark(i, again, at, old, new)
+}
+
+// Joins all that record i asks.
+fn join_all(list: &mut [u64], asks: Asks, i: usize, again: usize) -> usize
+    requires { ⌜ Named (length (now list)) (listed asks) ⌝ }
+    ensures list { λ r. ⌜ now (list .exit) ≡ grant (listed asks) (now (list .entry)) ⌝ }
+    ensures mark { λ r. ⌜ r ≡ marksOf i again (listed asks) (now (list .entry)) ⌝ }
+{
+    let count = asks.count;
+    if count == 0 {
+        return again;
+    }
+    let first = join(list, asks.first, i, again);
+    if count == 1 {
+        return first;
+    }
+    let second = join(list, asks.second, i, first);
+    if count == 2 {
+        return second;
+    }
+    join(list, asks.third, i, second)
+}
+
+// One sweep from record `top` - 1 down to 0. The records from `top` on are settled already. The answer is where the next sweep
+// starts: one more than the highest record that gained a bit after this one had passed it, or 0.
+fn sweep(file: &[u8], list: &mut [u64], top: usize) -> usize
+    requires { ⌜ Ready (now file) (now list) top ⌝ }
+    ensures { λ r. ⌜ Swept (designOf (now (file .entry))) (now (list .entry)) (now (list .exit)) r ⌝ }
+{
+    let mut again: usize = 0;
+    let mut i = top;
+    while 0 < i {
+        i -= 1;
+        let asks = asked(file, i, list[i]);
+        again = join_all(list, asks, i, again);
+    }
+    again
+}
+
+// Raises the masks in a list to the smallest closed family above them.
+pub fn raise(file: &[u8], list: &mut [u64])
+    requires { ⌜ Acceptance (now file) (countOf (now file)) × Fits (designOf (now file)) (now list) ⌝ }
+    ensures { λ r. ⌜ now (list .exit) ≡ leastAbove (designOf (now (file .entry))) (now (list .entry)) ⌝ }
+{
+    let mut top = list.len();
+    loop {
+        top = sweep(file, list, top);
+        if top == 0 {
+            break;
+        }
+    }
+}

@@ -1,0 +1,31 @@
+// The tally of a design's masks: the sum of all widths, and the count of ones over all masks.
+// A caller has an accepted file and a list with a mask for each record.
+use bits::mask::count_ones;
+use netlist::layout::width_at;
+use netlist::refusal::Refusal;
+ghost use mathlib.Core.Path.{_≡_};
+ghost use Rattle.netlist.specs.Layout.{designOf, countOf};
+ghost use Rattle.netlist.specs.Sound.{Acceptance};
+ghost use Rattle.care.specs.Call.{tallyOf};
+ghost use Rattle.care.specs.Sweep.{Fits};
+
+// The answer of an operation that fills a mask list: the tally, or the refusal and its record.
+pub enum Tallied {
+    Tally { widths: u64, ones: u64 },
+    Refused(Refusal, usize),
+}
+
+pub fn tally(file: &[u8], list: &[u64]) -> Tallied
+    requires { ⌜ Acceptance (now file) (countOf (now file)) × Fits (designOf (now file)) (now list) ⌝ }
+    ensures { λ r. ⌜ r ≡ tallyOf (designOf (now (file .entry))) (now (list .entry)) ⌝ }
+{
+    let mut widths: u64 = 0;
+    let mut ones: u64 = 0;
+    let mut i: usize = 0;
+    while i < list.len() {
+        widths += width_at(file, i);
+        ones += count_ones(list[i]);
+        i += 1;
+    }
+    Tallied::Tally { widths, ones }
+}
