@@ -11,7 +11,7 @@ use lib.ListN.{length, getD, set, List·getD-append}
 use lib.Seq.{ext-getD, getD-append-seam, getD-set-same, getD-set-other}
 use Rattle.bits.specs.Lists.{wordsOf, sumTo}
 
-length-append : (l m : List ℕ) → length (l ++ m) ≡ length l + length m
+pub length-append : (l m : List ℕ) → length (l ++ m) ≡ length l + length m
 length-append [] m = omega arith
 length-append (x ∷ l) m = let e = length-append l m in omega arith
 

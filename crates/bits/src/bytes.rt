@@ -2,9 +2,9 @@
 // A caller has the bytes that are read or written in the slice.
 ghost use mathlib.Core.Path.{_≡_};
 ghost use mathlib.Core.List.{_++_};
-ghost use Prim.Native.Nat.{_+_, _≤_, _<_, _^_};
+ghost use Prim.Native.Nat.{_+_, _*_, _≤_, _<_, _^_};
 ghost use lib.ListN.{length, drop, getD};
-ghost use Rattle.bits.specs.Bytes.{numberAt, bytes};
+ghost use Rattle.bits.specs.Bytes.{numberAt, bytes, wordBytes};
 
 // A byte as a word.
 fn wide(x: u8) -> u64
@@ -66,4 +66,16 @@ pub fn write_64(d: &mut [u8], v: u64)
     d[6] = (v6 % 256) as u8;
     let v7 = v6 / 256;
     d[7] = (v7 % 256) as u8;
+}
+
+// Writes a list of words, 8 bytes each.
+pub fn write_words(d: &mut [u8], words: &[u64])
+    requires { ⌜ length (now d) ≡ 8 * length (now words) ⌝ }
+    ensures { λ r. ⌜ now (d .exit) ≡ wordBytes (now (words .entry)) ⌝ }
+{
+    let mut i: usize = 0;
+    while i < words.len() {
+        write_64(&mut d[8 * i..], words[i]);
+        i += 1;
+    }
 }

@@ -1,26 +1,26 @@
 -- The masks of a design are closed, lie within every closed family, and are the only such masks.
 -- Assumes nothing.
-use mathlib.Core.Path.{_≡_, refl, sym, ap, subst, _∙_}
+use mathlib.Core.Path.{_≡_, refl, sym, subst, _∙_}
 use mathlib.Core.Bool.{Bool, true, false, cond}
 use mathlib.Core.Logic.{_⊎_, inl, inr}
 use mathlib.Core.List.{List}
 use Prim.Native.Nat.{ℕ, zero, suc, _+_, _≤_, _<_}
 use native.Mathlib.Omega.{arith}
-use borrow.Author.Tests.{eqb-true, eqb-false}
 use lib.Dec.{eqb}
 use lib.ListN.{length, List·getD-eq-default}
 use lib.Seq.{ext-getD}
+use borrow.Author.Tests.{eqb-true, eqb-false}
 use Rattle.bits.specs.Lists.{wordsOf}
 use Rattle.bits.specs.Masks.{Within}
 use Rattle.bits.specs.Words.{lowMask, countOnes}
 use Rattle.bits.proofs.Growth.{countOnes-mono, countOnes-le, growth}
 use Rattle.bits.proofs.ListLaws.{length-words, word-at, sum-mono, sum-same}
-use Rattle.bits.proofs.Order.{within-refl, within-trans, within-antisym, within-zero, low-within}
+use Rattle.bits.proofs.Order.{within-refl, within-antisym, within-zero, low-within}
 use Rattle.netlist.specs.Check.{isOutput, roleAt}
 use Rattle.netlist.specs.Layout.{Design}
 use Rattle.netlist.specs.Sound.{Sound}
 use Rattle.netlist.proofs.SoundLaws.{word-64}
-use Rattle.signal.specs.Asks.{Granted, asked}
+use Rattle.signal.specs.Asks.{asked}
 use Rattle.care.specs.Least.{Closed, Least, maskAt, outputSeed, roundTo, widthSum, onesSum, settle, leastAbove, masksOf}
 use Rattle.care.specs.Sweep.{Fits, Between, Settled}
 use Rattle.care.proofs.Families.{Inside, inside-refl, inside-trans, granted-more, below-or-not, allBits, all-closed}

@@ -1,14 +1,12 @@
 -- The asks that the code's struct holds, by their number.
 -- Assumes nothing.
-use mathlib.Core.Path.{_≡_, refl, sym, ap, subst}
+use mathlib.Core.Path.{_≡_, refl, subst}
 use mathlib.Core.List.{List, [], _∷_}
-use Prim.Native.Nat.{ℕ, zero, suc, _≤_, _<_}
+use Prim.Native.Nat.{ℕ, zero, suc, _<_}
 use native.Mathlib.Omega.{arith}
-use lib.ListN.{take, length}
+use lib.ListN.{take}
 use lib.Seq.{take-all}
-use Rattle.signal.specs.Asks.{listed}
 use Rattle.signal.specs.declared.asks.Ask.{Ask}
-use Rattle.signal.specs.declared.asks.Asks.{Asks}
 use Rattle.care.specs.Sweep.{Named}
 
 -- the first k of three

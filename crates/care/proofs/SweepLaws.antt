@@ -7,16 +7,16 @@ use mathlib.Core.List.{List, [], _∷_}
 use Prim.Native.Nat.{ℕ, suc, _+_, _-_, _≤_, _<_, min}
 use native.Mathlib.Nat.{eq-or-lt-of-le}
 use native.Mathlib.Omega.{arith}
-use borrow.Author.Tests.{eqb-true, eqb-false, leb-true, not-true, le-leb, ne-eqb}
 use lib.Bits.{bitOr}
 use lib.Dec.{eqb, leb}
 use lib.ListN.{length}
+use borrow.Author.Tests.{eqb-false, leb-true, not-true, le-leb, ne-eqb}
 use Rattle.netlist.specs.Layout.{Design}
 use Rattle.netlist.specs.Sound.{Sound}
 use Rattle.netlist.proofs.Tests.{and-first, and-second}
 use Rattle.signal.specs.Asks.{Granted, asked}
 use Rattle.signal.specs.declared.asks.Ask.{Ask}
-use Rattle.care.specs.Least.{Closed, maskAt, grant, widthSum, onesSum}
+use Rattle.care.specs.Least.{maskAt, grant, widthSum, onesSum}
 use Rattle.care.specs.Sweep.{Fits, Named, joined, markFor, marksOf, Between, Settled, Swept}
 use Rattle.care.proofs.Families.{Inside, inside-refl, inside-trans, granted-more, same-or-not, below-or-not, joined-same, joined-other, joined-above, joined-least, length-joined, still-named, length-grant, grant-above, grant-granted, grant-least, allBits, all-closed}
 use Rattle.care.proofs.Rounds.{asked-named, closed-grants}

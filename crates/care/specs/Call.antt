@@ -12,8 +12,9 @@ use Rattle.netlist.specs.declared.check.Checked.the-variants.{Accepted, Refused
 use Rattle.netlist.specs.declared.refusal.Refusal.{Refusal}
 use Rattle.netlist.specs.declared.refusal.Refusal.the-variants.{BadList}
 use Rattle.care.specs.Least.{widthSum, onesSum, masksOf}
+use Rattle.care.specs.declared.tally.Tally.{Tally}
 use Rattle.care.specs.declared.tally.Tallied.{Tallied}
-use Rattle.care.specs.declared.tally.Tallied.the-variants.{Tally, Refused as refused}
+use Rattle.care.specs.declared.tally.Tallied.the-variants.{Done, Refused as refused}
 
 -- What a call answers, and the mask list that it leaves.
 pub record MasksCall : Type 0 where
@@ -21,8 +22,8 @@ pub record MasksCall : Type 0 where
   pub list : List ℕ
 
 -- "Masks and trim answer with the tally, two numbers: the sum of all widths, and the count of ones over all masks."
-abbrev pub tallyOf : Design → List ℕ → Tallied
-tallyOf d masks = Tally (widthSum d) (onesSum d masks)
+abbrev pub tallyOf : Design → List ℕ → Tally
+tallyOf d masks = record { widths = widthSum d; ones = onesSum d masks }
 
 -- A refused call: "No lent word or byte changes."
 abbrev pub refuse : Refusal → ℕ → List ℕ → MasksCall
@@ -30,7 +31,7 @@ refuse r i list = record { answer = refused r i; list = list }
 
 -- An accepted call fills the list with the masks.
 abbrev pub fillMasks : Design → MasksCall
-fillMasks d = record { answer = tallyOf d (masksOf d); list = masksOf d }
+fillMasks d = record { answer = Done (tallyOf d (masksOf d)); list = masksOf d }
 
 -- 11: "A mask, board or next list has not n words."
 unfoldable pub masksAfter : Checked → Design → List ℕ → MasksCall

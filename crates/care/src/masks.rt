@@ -2,7 +2,8 @@
 // `masks` asks nothing of its caller; the functions below it ask for an accepted file and a list of n words.
 use crate::sweep::raise;
 use crate::tally::Tallied;
-use crate::tally::tally;
+use crate::tally::Tally;
+use crate::tally::tally_of;
 use bits::mask::low_mask;
 use netlist::check::Checked;
 use netlist::check::check;
@@ -15,8 +16,8 @@ ghost use lib.ListN.{length};
 ghost use Rattle.bits.specs.Lists.{wordsOf};
 ghost use Rattle.netlist.specs.Layout.{designOf, countOf};
 ghost use Rattle.netlist.specs.Sound.{Acceptance};
-ghost use Rattle.care.specs.Call.{fillMasks, masksCall};
-ghost use Rattle.care.specs.Least.{outputSeed, seedOf};
+ghost use Rattle.care.specs.Call.{tallyOf, masksCall};
+ghost use Rattle.care.specs.Least.{outputSeed, seedOf, masksOf};
 
 // All w bits for an output, and none for another record.
 fn seed_of(role: Role, w: u64) -> u64
@@ -56,14 +57,14 @@ fn seed(file: &[u8], list: &mut [u64])
 }
 
 // Fills a list with the masks of an accepted file.
-pub fn fill(file: &[u8], list: &mut [u64]) -> Tallied
+pub fn fill(file: &[u8], list: &mut [u64]) -> Tally
     requires { ⌜ Acceptance (now file) (countOf (now file)) × (length (now list) ≡ countOf (now file)) ⌝ }
-    ensures answer { λ r. ⌜ r ≡ fillMasks (designOf (now (file .entry))) .answer ⌝ }
-    ensures list { λ r. ⌜ now (list .exit) ≡ fillMasks (designOf (now (file .entry))) .list ⌝ }
+    ensures tally { λ r. ⌜ r ≡ tallyOf (designOf (now (file .entry))) (masksOf (designOf (now (file .entry)))) ⌝ }
+    ensures list { λ r. ⌜ now (list .exit) ≡ masksOf (designOf (now (file .entry))) ⌝ }
 {
     seed(file, list);
     raise(file, list);
-    tally(file, list)
+    tally_of(file, list)
 }
 
 // The masks of a file's design in a list of n words, and their tally.
@@ -76,7 +77,7 @@ pub fn masks(file: &[u8], list: &mut [u64]) -> Tallied
             if list.len() != n {
                 return Tallied::Refused(Refusal::BadList, 0);
             }
-            fill(file, list)
+            Tallied::Done(fill(file, list))
         }
         Checked::Refused(r, i) => Tallied::Refused(r, i),
     }

@@ -1,4 +1,4 @@
-// The tally of a design's masks: the sum of all widths, and the count of ones over all masks.
+// The tally of a design's masks, and the answer of an operation that gives one.
 // A caller has an accepted file and a list with a mask for each record.
 use bits::mask::count_ones;
 use netlist::layout::width_at;
@@ -9,13 +9,19 @@ ghost use Rattle.netlist.specs.Sound.{Acceptance};
 ghost use Rattle.care.specs.Call.{tallyOf};
 ghost use Rattle.care.specs.Sweep.{Fits};
 
+// The sum of all widths, and the count of ones over all masks.
+pub struct Tally {
+    pub widths: u64,
+    pub ones: u64,
+}
+
 // The answer of an operation that fills a mask list: the tally, or the refusal and its record.
 pub enum Tallied {
-    Tally { widths: u64, ones: u64 },
+    Done(Tally),
     Refused(Refusal, usize),
 }
 
-pub fn tally(file: &[u8], list: &[u64]) -> Tallied
+pub fn tally_of(file: &[u8], list: &[u64]) -> Tally
     requires { ⌜ Acceptance (now file) (countOf (now file)) × Fits (designOf (now file)) (now list) ⌝ }
     ensures { λ r. ⌜ r ≡ tallyOf (designOf (now (file .entry))) (now (list .entry)) ⌝ }
 {
@@ -27,5 +33,5 @@ pub fn tally(file: &[u8], list: &[u64]) -> Tallied
         ones += count_ones(list[i]);
         i += 1;
     }
-    Tallied::Tally { widths, ones }
+    Tally { widths, ones }
 }

@@ -1,21 +1,15 @@
-use Rattle.care.proofs.CallLaws.{call-refused, call-bad-list, call-filled}
-use Rattle.care.specs.Call.{MasksCall}
+use mathlib.Core.Path.{_≡_, sym, ap, subst, _∙_}
+use Prim.Native.Nat.{ℕ}
+use borrow.Author.Needs.{needs}
+use denote.Ref.{now}
 use Rattle.netlist.proofs.Acceptance.{accepted}
 use Rattle.netlist.specs.Sound.{Acceptance}
-use Rattle.netlist.specs.Layout.{designOf}
-use denote.Ref.{now}
-use Prim.Native.Nat.{ℕ}
-use mathlib.Core.List.{List}
-use mathlib.Core.Path.{_≡_, sym, ap, subst, _∙_}
-use borrow.Author.Needs.{needs}
+use Rattle.care.specs.declared.tally.Tallied.the-variants.{Done}
+use Rattle.care.proofs.CallLaws.{call-refused, call-bad-list, call-filled}
+use Rattle.care.specs.Call.{MasksCall}
 use Rattle.care.proofs.masks.masks.Statement.{statement}
 use Rattle.care.proofs.masks.masks.Tie as tie
-use Rattle.care.proofs.masks.masks.Reads as reads
-use Rattle.care.proofs.masks.masks.Lts as lts
-use Rattle.care.proofs.masks.fill.Reads as fill-reads
-use Rattle.netlist.proofs.check.check.Reads as check-reads
 
--- src/masks.rt:74:11
 -- the answer and the list of a call, from what the call is
 both : (c e : MasksCall) → c ≡ e → (e .answer ≡ c .answer) × (e .list ≡ c .list)
 both c e q = (ap (λ (m : MasksCall). m .answer) (sym q), ap (λ (m : MasksCall). m .list) (sym q))
@@ -23,33 +17,26 @@ both c e q = (ap (λ (m : MasksCall). m .answer) (sym q), ap (λ (m : MasksCall)
 check-requires : tie.Need-check-requires
 check-requires c κs = tt
 
--- src/masks.rt:75:27
 enum-known-n : tie.Need-enum-known-n
 enum-known-n c = search needs
 
--- src/masks.rt:77:17
 returns : tie.Need-returns
 returns c = both _ _ (call-bad-list (now (c .before .before .before .before .before .before .before .args .file)) (now (c .before .before .before .before .before .before .before .args .list)) (sym (c .before .before .before .before .check .ensures) ∙ c .before .before .n .given .1) (c .if1 .taken))
 
--- src/masks.rt:79:13
 fill-requires : tie.Need-fill-requires
 fill-requires c κs = let a = accepted (now (c .before .before .before .before .before .before .before .before .args .file)) _ (sym (c .before .before .before .before .before .check .ensures) ∙ c .before .before .before .n .given .1) in
     (subst (λ (n : ℕ). Acceptance (now (c .before .before .before .before .before .before .before .before .args .file)) n) (a .count) a, c .before .if1 .left ∙ a .count)
 
--- src/masks.rt:81:26
 enum-known-r : tie.Need-enum-known-r
 enum-known-r c = search needs
 
--- src/masks.rt:70:1
 same-length : tie.Need-same-length
 same-length c = search needs
 
--- src/masks.rt:70:1
 returns-2 : tie.Need-returns-2
 returns-2 c = let b = both _ _ (call-filled (now (c .before .before .before .before .before .before .before .before .before .before .before .args .file)) (now (c .before .before .before .before .before .before .before .before .before .before .before .args .list)) (sym (c .before .before .before .before .before .before .before .before .check .ensures) ∙ c .before .before .before .before .before .before .n .given .1) (c .before .before .before .before .if1 .left)) in
-    (c .before .before .fill .ensures .0 ∙ b .0, c .before .before .fill .ensures .1 ∙ b .1)
+    (ap Done (c .before .before .fill .ensures .0) ∙ b .0, c .before .before .fill .ensures .1 ∙ b .1)
 
--- src/masks.rt:70:1
 returns-3 : tie.Need-returns-3
 returns-3 c = both _ _ (call-refused (now (c .before .before .before .before .before .before .args .file)) (now (c .before .before .before .before .before .before .args .list)) (sym (c .before .before .before .check .ensures) ∙ c .before .r .given .1))
 

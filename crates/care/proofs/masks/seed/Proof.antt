@@ -1,16 +1,13 @@
-use Rattle.care.specs.Least.{outputSeed}
-use Rattle.netlist.specs.Layout.{designOf, countOf}
-use Rattle.bits.proofs.ListLaws.{Filled, filled-none, filled-next, filled-all}
-use denote.Ref.{now}
-use lib.ListN.{length, length-set}
+use mathlib.Core.Path.{_≡_, sym, subst, _∙_}
+use Prim.Native.Nat.{ℕ, _-_, _≤_}
 use native.Mathlib.Omega.{arith}
-use Prim.Native.Nat.{ℕ, _-_, _≤_, _<_}
-use mathlib.Core.Path.{_≡_, refl, sym, subst, _∙_}
+use lib.ListN.{length, length-set}
+use denote.Ref.{now}
+use Rattle.bits.proofs.ListLaws.{Filled, filled-none, filled-next, filled-all}
+use Rattle.netlist.specs.Layout.{designOf, countOf}
+use Rattle.care.specs.Least.{outputSeed}
 use Rattle.care.proofs.masks.seed.Statement.{statement}
 use Rattle.care.proofs.masks.seed.Tie as tie
-use Rattle.care.proofs.masks.seed.Reads as reads
-use Rattle.care.proofs.masks.seed.Lts as lts
-use Rattle.care.proofs.masks.seed_at.Reads as seed-at-reads
 
 abbrev Inv-loop : tie.InvT-loop
 Inv-loop file list₀ i₀ list i = (i ≤ countOf file) × (length list ≡ countOf file) × Filled (outputSeed (designOf file)) list i
@@ -18,33 +15,26 @@ Inv-loop file list₀ i₀ list i = (i ≤ countOf file) × (length list ≡ cou
 abbrev μ-loop : tie.MeasureT-loop
 μ-loop file list₀ i₀ list i = countOf file - i
 
--- src/masks.rt:52:5
 loop-holds : tie.Need-loop-holds Inv-loop μ-loop
 loop-holds c = (omega arith, c .before .before .pre .1, filled-none _ _)
 
--- src/masks.rt:53:19
 seed-at-requires : tie.Need-seed-at-requires Inv-loop μ-loop
 seed-at-requires c κs = (c .before .before .before .before .pre .0, let e = c .before .loop .inv .1 in let t = c .loop-test .taken in omega arith)
 
--- src/masks.rt:53:9
 mul-list : tie.Need-mul-list Inv-loop μ-loop
 unfolding designOf
 mul-list c = let f = c .before .before .before .before .before .pre .0 .sound .few in let e = c .before .before .loop .inv .1 in let t = c .before .loop-test .taken in omega arith
 
--- src/masks.rt:53:9
 slice-write-list : tie.Need-slice-write-list Inv-loop μ-loop
 slice-write-list c = c .before .loop-test .taken
 
--- src/masks.rt:54:9
 add-i : tie.Need-add-i Inv-loop μ-loop
 unfolding designOf
 add-i c = let f = c .before .before .before .before .before .pre .0 .sound .few in let e = c .before .before .loop .inv .0 in omega arith
 
--- src/masks.rt:52:5
 loop-less : tie.Need-loop-less Inv-loop μ-loop
 loop-less c = let e = c .before .before .loop .inv .1 in let t = c .before .loop-test .taken in omega arith
 
--- src/masks.rt:52:5
 loop-again : tie.Need-loop-again Inv-loop μ-loop
 loop-again c = let e = c .before .before .loop .inv .1 in
     let t = c .before .loop-test .taken in (
@@ -53,11 +43,9 @@ loop-again c = let e = c .before .before .loop .inv .1 in
       filled-next (outputSeed (designOf (now (c .before .before .before .before .before .args .file)))) (c .before .before .loop .list) (c .before .before .loop .i) (c .seed-at .result) (c .before .before .loop .inv .2) t (c .seed-at .ensures),
     )
 
--- src/masks.rt:47:1
 same-length : tie.Need-same-length Inv-loop μ-loop
 same-length c = c .before .loop .inv .1 ∙ sym (c .before .before .before .before .pre .1)
 
--- src/masks.rt:47:1
 returns : tie.Need-returns Inv-loop μ-loop
 returns c = let e = c .before .loop .inv .1 in
     let t = c .loop-test .left in

@@ -1,35 +1,25 @@
-use Rattle.care.specs.Least.{seedOf}
-use Rattle.signal.proofs.Reading.{holds-record}
+use mathlib.Core.Path.{sym, ap, subst, _∙_}
+use Prim.Native.Nat.{_≤_}
+use denote.Ref.{now}
 use Rattle.netlist.specs.declared.record.Uses.{Uses}
 use Rattle.netlist.specs.declared.record.Record.{Record}
 use Rattle.netlist.specs.Layout.{designOf}
 use Rattle.netlist.specs.Kinds.{usesOf}
-use denote.Ref.{now}
-use Prim.Native.Nat.{ℕ, _≤_}
-use mathlib.Core.Path.{sym, ap, subst, _∙_}
-use borrow.Author.Needs.{needs}
+use Rattle.signal.proofs.Reading.{holds-record}
+use Rattle.care.specs.Least.{seedOf}
 use Rattle.care.proofs.masks.seed_at.Statement.{statement}
 use Rattle.care.proofs.masks.seed_at.Tie as tie
-use Rattle.care.proofs.masks.seed_at.Reads as reads
-use Rattle.care.proofs.masks.seed_at.Lts as lts
-use Rattle.care.proofs.masks.seed_of.Reads as seed-of-reads
-use Rattle.netlist.proofs.layout.record_at.Reads as record-at-reads
-use Rattle.netlist.proofs.record.Kind.uses.Reads as uses-reads
 
--- src/masks.rt:39:9
 record-at-requires : tie.Need-record-at-requires
 record-at-requires c κs = holds-record (now (c .before .args .file)) (c .before .pre .0) (c .before .args .i) (c .before .pre .1)
 
--- src/masks.rt:41:9
 uses-requires : tie.Need-uses-requires
 uses-requires c κs = tt
 
--- src/masks.rt:43:5
 seed-of-requires : tie.Need-seed-of-requires
 unfolding designOf
 seed-of-requires c κs = subst (λ (r : Record). r .width ≤ 64) (sym (c .before .record-at .ensures)) (c .before .before .before .pre .0 .sound .each (c .before .before .before .args .i) (c .before .before .before .pre .1) .narrow)
 
--- src/masks.rt:35:1
 returns : tie.Need-returns
 unfolding designOf
 returns c = c .seed-of .ensures ∙ ap (λ (u : Uses). seedOf (u .role) (c .before .before .record-at .result .width)) (c .before .uses .ensures) ∙ ap (λ (r : Record). seedOf (usesOf (r .kind) .role) (r .width)) (c .before .before .record-at .ensures)

@@ -1,44 +1,30 @@
-use mathlib.Core.Path.{_∙_}
-use borrow.Author.Needs.{needs}
 use Rattle.care.proofs.masks.seed_of.Statement.{statement}
 use Rattle.care.proofs.masks.seed_of.Tie as tie
-use Rattle.care.proofs.masks.seed_of.Reads as reads
-use Rattle.care.proofs.masks.seed_of.Lts as lts
-use Rattle.bits.proofs.mask.low_mask.Reads as low-mask-reads
 
--- src/masks.rt:27:24
 enum-told : tie.Need-enum-told
 enum-told c = c .match .keys1
 
--- src/masks.rt:28:42
 enum-told-2 : tie.Need-enum-told-2
 enum-told-2 c = c .match .keys2
 
--- src/masks.rt:29:25
 enum-told-3 : tie.Need-enum-told-3
 enum-told-3 c = c .match .keys3
 
--- src/masks.rt:29:25
 low-mask-requires : tie.Need-low-mask-requires
 low-mask-requires c κs = c .before .before .pre
 
--- src/masks.rt:30:23
 enum-told-4 : tie.Need-enum-told-4
 enum-told-4 c = c .match .keys4
 
--- src/masks.rt:22:1
 returns : tie.Need-returns
 returns c = rw (c .enum-told .given .1)
 
--- src/masks.rt:22:1
 returns-2 : tie.Need-returns-2
 returns-2 c = rw (c .enum-told2 .given .1)
 
--- src/masks.rt:22:1
 returns-3 : tie.Need-returns-3
 returns-3 c = rw (c .before .enum-told3 .given .1) (c .low-mask .ensures)
 
--- src/masks.rt:22:1
 returns-4 : tie.Need-returns-4
 returns-4 c = rw (c .enum-told4 .given .1)
 

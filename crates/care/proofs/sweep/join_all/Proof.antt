@@ -1,23 +1,18 @@
+use mathlib.Core.List.{List, [], _∷_}
+use mathlib.Core.Path.{_≡_, sym, ap, ap₂, subst, _∙_}
+use Prim.Native.Nat.{ℕ, _<_}
+use lib.ListN.{length, take}
+use borrow.Author.Needs.{needs}
+use denote.Ref.{now}
+use Rattle.signal.specs.declared.asks.Asks.{Asks}
+use Rattle.signal.specs.declared.asks.Ask.{Ask}
 use Rattle.care.proofs.ListedAsks.{three-of, named-first, named-second, named-third}
 use Rattle.care.proofs.Families.{length-joined}
 use Rattle.care.specs.Sweep.{joined, markFor, marksOf}
 use Rattle.care.specs.Least.{grant}
-use Rattle.signal.specs.declared.asks.Asks.{Asks}
-use Rattle.signal.specs.declared.asks.Ask.{Ask}
-use denote.Ref.{now}
-use lib.ListN.{length, take}
-use Prim.Native.Nat.{ℕ, _<_}
-use mathlib.Core.List.{List, [], _∷_}
-use mathlib.Core.Path.{_≡_, refl, sym, ap, ap₂, subst, _∙_}
-use mathlib.Core.Path.{_≡_, refl, sym, ap, subst, _∙_}
-use borrow.Author.Needs.{needs}
 use Rattle.care.proofs.sweep.join_all.Statement.{statement}
 use Rattle.care.proofs.sweep.join_all.Tie as tie
-use Rattle.care.proofs.sweep.join_all.Reads as reads
-use Rattle.care.proofs.sweep.join_all.Lts as lts
-use Rattle.care.proofs.sweep.join.Reads as join-reads
 
--- src/sweep.rt:48:9
 -- how many asks there are is known at each return
 abbrev counted : Asks → ℕ → List Ask
 counted r k = take k (r .first ∷ r .second ∷ r .third ∷ [])
@@ -30,15 +25,12 @@ returns : tie.Need-returns
 unfolding grant marksOf
 returns c = let a = c .before .before .args in (ap (λ (k : ℕ). grant (counted (a .asks) k) (now (a .list))) (sym (c .if1 .taken)), ap (λ (k : ℕ). marksOf (a .i) (a .again) (counted (a .asks) k) (now (a .list))) (sym (c .if1 .taken)))
 
--- src/sweep.rt:50:9
 join-requires : tie.Need-join-requires
 join-requires c κs = let r = c .before .before .before .args .asks in named-first (r .first) (r .second) (r .third) _ (r .count) (c .before .if1 .left) (c .before .before .before .pre)
 
--- src/sweep.rt:52:9
 same-length : tie.Need-same-length
 same-length c = search needs
 
--- src/sweep.rt:52:9
 returns-2 : tie.Need-returns-2
 unfolding grant marksOf
 returns-2 c = let a = c .before .before .before .before .before .before .before .args in
@@ -47,7 +39,6 @@ returns-2 c = let a = c .before .before .before .before .before .before .before 
       c .before .before .before .join .ensures .1 ∙ ap (λ (k : ℕ). marksOf (a .i) (a .again) (counted (a .asks) k) l) (sym (c .if2 .taken)),
     )
 
--- src/sweep.rt:54:9
 join-requires-2 : tie.Need-join-requires-2
 join-requires-2 c κs = let r = c .before .before .before .before .before .before .before .before .args .asks in
     let l = now (c .before .before .before .before .before .before .before .before .args .list) in
@@ -55,11 +46,9 @@ join-requires-2 c κs = let r = c .before .before .before .before .before .befor
     kept-in l _ (r .first) (r .second .operand) (named-first (r .first) (r .second) (r .third) _ (r .count) (c .before .before .before .before .before .before .if1 .left) p) (c .before .before .before .before .join .ensures .0)
     (named-second (r .first) (r .second) (r .third) _ (r .count) (c .before .before .before .before .before .before .if1 .left) (c .before .if2 .left) p)
 
--- src/sweep.rt:56:9
 same-length-2 : tie.Need-same-length-2
 same-length-2 c = search needs
 
--- src/sweep.rt:56:9
 returns-3 : tie.Need-returns-3
 unfolding grant marksOf
 returns-3 c = let a = c .before .before .before .before .before .before .before .before .before .before .before .before .args in
@@ -71,7 +60,6 @@ returns-3 c = let a = c .before .before .before .before .before .before .before 
           ∙ ap (λ (k : ℕ). marksOf (a .i) (a .again) (counted (a .asks) k) l) (sym (c .if3 .taken)),
     )
 
--- src/sweep.rt:58:5
 join-requires-3 : tie.Need-join-requires-3
 join-requires-3 c κs = let r = c .before .before .before .before .before .before .before .before .before .before .before .before .before .args .asks in
     let l = now (c .before .before .before .before .before .before .before .before .before .before .before .before .before .args .list) in
@@ -82,11 +70,9 @@ join-requires-3 c κs = let r = c .before .before .before .before .before .befor
     kept-in (c .before .before .before .before .before .before .before .before .before .join .last .0) (c .before .before .before .before .join2 .last .0) (r .second) (r .third .operand) y (c .before .before .before .before .join2 .ensures .0)
     (kept-in l _ (r .first) (r .third .operand) x e (named-third (r .first) (r .second) (r .third) _ (r .count) (c .before .before .before .before .before .before .before .before .before .before .before .if1 .left) (c .before .before .before .before .before .before .if2 .left) (c .before .if3 .left) p))
 
--- src/sweep.rt:41:1
 same-length-3 : tie.Need-same-length-3
 same-length-3 c = search needs
 
--- src/sweep.rt:41:1
 returns-4 : tie.Need-returns-4
 unfolding grant marksOf
 returns-4 c = let a = c .before .before .before .before .before .before .before .before .before .before .before .before .before .before .before .before .args in

@@ -1,17 +1,14 @@
-use Rattle.care.specs.Sweep.{markOf}
-use lib.Dec.{eqb, leb}
-use borrow.Author.Tests.{lt-leb, le-leb, eq-eqb, ne-eqb}
-use native.Mathlib.Numerals.{add-one}
-use Prim.Native.Nat.{ℕ, suc, _+_, _<_, _≤_}
 use mathlib.Core.Bool.{Bool, cond, not, _&&_, and-false}
 use mathlib.Core.Path.{_≡_, sym, ap, _∙_}
+use Prim.Native.Nat.{ℕ, suc, _+_, _<_, _≤_}
+use native.Mathlib.Numerals.{add-one}
+use lib.Dec.{eqb, leb}
+use borrow.Author.Tests.{lt-leb, le-leb, eq-eqb, ne-eqb}
 use borrow.Author.Needs.{needs}
+use Rattle.care.specs.Sweep.{markOf}
 use Rattle.care.proofs.sweep.mark.Statement.{statement}
 use Rattle.care.proofs.sweep.mark.Tie as tie
-use Rattle.care.proofs.sweep.mark.Reads as reads
-use Rattle.care.proofs.sweep.mark.Lts as lts
 
--- src/sweep.rt:21:9
 -- each part of the test that fails leaves `again`
 module _ (i again at old new : ℕ) where
   passed-by : at < i → again ≡ markOf i again at old new
@@ -37,19 +34,15 @@ module _ (i again at old new : ℕ) where
 returns : tie.Need-returns
 returns c = passed-by (c .before .args .i) (c .before .args .again) (c .before .args .at) (c .before .args .old) (c .before .args .new) (c .if1 .taken)
 
--- src/sweep.rt:24:9
 returns-2 : tie.Need-returns-2
 returns-2 c = marked-already (c .before .before .args .i) (c .before .before .args .again) (c .before .before .args .at) (c .before .before .args .old) (c .before .before .args .new) (c .if2 .taken)
 
--- src/sweep.rt:27:9
 returns-3 : tie.Need-returns-3
 returns-3 c = unchanged (c .before .before .before .args .i) (c .before .before .before .args .again) (c .before .before .before .args .at) (c .before .before .before .args .old) (c .before .before .before .args .new) (c .if3 .taken)
 
--- src/sweep.rt:29:5
 add-result : tie.Need-add-result
 add-result c = search needs
 
--- src/sweep.rt:16:1
 returns-4 : tie.Need-returns-4
 returns-4 c = raised (c .before .before .before .args .i) (c .before .before .before .args .again) (c .before .before .before .args .at) (c .before .before .before .args .old) (c .before .before .before .args .new) (c .before .before .if1 .left) (c .before .if2 .left) (c .if3 .left)
 

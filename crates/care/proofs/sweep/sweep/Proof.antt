@@ -1,24 +1,19 @@
+use mathlib.Core.List.{List}
+use mathlib.Core.Path.{_≡_, sym, ap, subst, _∙_}
+use Prim.Native.Nat.{ℕ, suc, _-_, _≤_, _<_}
+use native.Mathlib.Omega.{arith}
+use lib.ListN.{length}
+use denote.Ref.{now}
 use Rattle.netlist.specs.Sound.{Sound}
-use Rattle.netlist.specs.Layout.{Design}
+use Rattle.netlist.specs.Layout.{Design, designOf, countOf}
+use Rattle.signal.specs.declared.asks.Ask.{Ask}
+use Rattle.signal.specs.Asks.{asked}
 use Rattle.care.proofs.SweepLaws.{Sweeping, sweep-begins, sweep-step, sweep-ends}
 use Rattle.care.proofs.Rounds.{asked-named}
 use Rattle.care.specs.Sweep.{Named, marksOf}
 use Rattle.care.specs.Least.{grant, maskAt}
-use Rattle.signal.specs.declared.asks.Ask.{Ask}
-use Rattle.signal.specs.Asks.{listed, asked}
-use Rattle.netlist.specs.Layout.{designOf, countOf}
-use denote.Ref.{now}
-use lib.ListN.{length}
-use native.Mathlib.Omega.{arith}
-use Prim.Native.Nat.{ℕ, suc, _-_, _+_, _≤_, _<_}
-use mathlib.Core.List.{List}
-use mathlib.Core.Path.{_≡_, refl, sym, ap, ap₂, subst, _∙_}
 use Rattle.care.proofs.sweep.sweep.Statement.{statement}
 use Rattle.care.proofs.sweep.sweep.Tie as tie
-use Rattle.care.proofs.sweep.sweep.Reads as reads
-use Rattle.care.proofs.sweep.sweep.Lts as lts
-use Rattle.care.proofs.sweep.join_all.Reads as join-all-reads
-use Rattle.signal.proofs.asks.asked.Reads as asked-reads
 
 -- a turn: what the calls promise, put into the step of the sweep
 turn : (d : Design) → Sound d → (before masks after : List ℕ) (again next i j : ℕ) (xs : List Ask) → i < d .count → j ≡ suc i
@@ -36,30 +31,24 @@ Inv-loop file list₀ top again₀ i₀ list again i = (i ≤ top) × Sweeping (
 abbrev μ-loop : tie.MeasureT-loop
 μ-loop file list₀ top again₀ i₀ list again i = i
 
--- src/sweep.rt:69:5
 loop-holds : tie.Need-loop-holds Inv-loop μ-loop
 unfolding designOf
 loop-holds c = let p = c .before .before .pre in (omega arith, sweep-begins (designOf (now (c .before .before .args .file))) _ (c .before .before .args .top) (p .fits) (p .settled))
 
--- src/sweep.rt:70:9
 sub-i : tie.Need-sub-i Inv-loop μ-loop
 sub-i c = omega arith
 
--- src/sweep.rt:71:35
 mul-asked : tie.Need-mul-asked Inv-loop μ-loop
 unfolding designOf
 mul-asked c = let f = c .before .before .before .before .pre .accepted .sound .few in let l = c .before .before .before .before .pre .low in let i = c .before .loop .inv .0 in omega arith
 
--- src/sweep.rt:71:35
 slice-read-asked : tie.Need-slice-read-asked Inv-loop μ-loop
 unfolding designOf
 slice-read-asked c = let e = c .before .before .loop .inv .1 .size in let l = c .before .before .before .before .before .pre .low in let i = c .before .before .loop .inv .0 in omega arith
 
--- src/sweep.rt:71:13
 asked-requires : tie.Need-asked-requires Inv-loop μ-loop
 asked-requires c κs = (c .before .before .before .before .before .pre .accepted, let l = c .before .before .before .before .before .pre .low in omega arith)
 
--- src/sweep.rt:72:9
 join-all-requires : tie.Need-join-all-requires Inv-loop μ-loop
 unfolding designOf
 join-all-requires c κs = let f = now (c .before .before .before .before .before .before .before .args .file) in
@@ -68,11 +57,9 @@ join-all-requires c κs = let f = now (c .before .before .before .before .before
     subst (λ (xs : List Ask). Named (length (c .before .before .before .before .loop .list)) xs) (sym (c .before .asked .ensures))
     (asked-named (designOf f) (c .before .before .before .before .before .before .before .pre .accepted .sound) (c .before .before .before .before .loop .list) (w .size) (c .before .before .before .before .loop .i - 1) h (maskAt (c .before .before .before .before .loop .list) (c .before .before .before .before .loop .i - 1)))
 
--- src/sweep.rt:69:5
 loop-less : tie.Need-loop-less Inv-loop μ-loop
 loop-less c = omega arith
 
--- src/sweep.rt:69:5
 loop-again : tie.Need-loop-again Inv-loop μ-loop
 unfolding designOf
 loop-again c = let f = now (c .before .before .before .before .before .before .before .before .before .before .args .file) in
@@ -82,11 +69,9 @@ loop-again c = let f = now (c .before .before .before .before .before .before .b
       turn (designOf f) (c .before .before .before .before .before .before .before .before .before .before .pre .accepted .sound) _ (l .list) _ (l .again) _ (l .i - 1) (l .i) _ h (let t = c .before .before .before .before .before .before .loop-test .taken in omega arith) (c .before .before .before .before .asked .ensures) (c .before .before .join-all .ensures .0) (c .before .before .join-all .ensures .1) (l .inv .1),
     )
 
--- src/sweep.rt:63:1
 same-length : tie.Need-same-length Inv-loop μ-loop
 same-length c = c .before .loop .inv .1 .size ∙ sym (c .before .before .before .before .pre .fits .size)
 
--- src/sweep.rt:63:1
 returns : tie.Need-returns Inv-loop μ-loop
 returns c = sweep-ends _ _ _ _ (subst (λ (n : ℕ). Sweeping (designOf (now (c .before .before .before .before .args .file))) (now (c .before .before .before .before .args .list)) (c .before .loop .list) (c .before .loop .again) n) (let t = c .loop-test .left in omega arith) (c .before .loop .inv .1))
 

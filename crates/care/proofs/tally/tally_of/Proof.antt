@@ -1,20 +1,17 @@
-use Prim.Native.Nat.{_*_}
-use Rattle.care.proofs.TallyLaws.{Counted, widths-bound, ones-bound, ones-low, counted-next}
-use Rattle.care.specs.declared.tally.Tallied.the-variants.{Tally}
-use Rattle.signal.proofs.Reading.{holds-record}
-use Rattle.netlist.specs.Layout.{designOf, countOf, recordAt}
-use Rattle.bits.specs.Lists.{sumTo}
-use denote.Ref.{now}
-use lib.ListN.{length}
-use native.Mathlib.Omega.{arith}
+use mathlib.Core.Path.{_≡_, refl, ap₂, subst}
 use Prim.Native.Nat.{ℕ, _-_, _≤_, _<_}
-use mathlib.Core.Path.{_≡_, refl, ap₂, subst, _∙_}
-use Rattle.care.proofs.tally.tally.Statement.{statement}
-use Rattle.care.proofs.tally.tally.Tie as tie
-use Rattle.care.proofs.tally.tally.Reads as reads
-use Rattle.care.proofs.tally.tally.Lts as lts
-use Rattle.bits.proofs.mask.count_ones.Reads as count-ones-reads
-use Rattle.netlist.proofs.layout.width_at.Reads as width-at-reads
+use native.Mathlib.Omega.{arith}
+use denote.Ref.{now}
+use Rattle.bits.specs.Lists.{sumTo}
+use Rattle.netlist.specs.Layout.{designOf, countOf, recordAt}
+use Rattle.signal.proofs.Reading.{holds-record}
+use Rattle.care.proofs.TallyLaws.{Counted, widths-bound, ones-bound, ones-low, counted-next}
+use Rattle.care.specs.declared.tally.Tally.{Tally}
+use Rattle.care.proofs.tally.tally_of.Statement.{statement}
+use Rattle.care.proofs.tally.tally_of.Tie as tie
+
+abbrev tally : ℕ → ℕ → Tally
+tally widths ones = record { widths = widths; ones = ones }
 
 abbrev Inv-loop : tie.InvT-loop
 Inv-loop file list widths₀ ones₀ i₀ widths ones i = (i ≤ countOf file) × Counted (designOf file) list widths ones i
@@ -22,17 +19,14 @@ Inv-loop file list widths₀ ones₀ i₀ widths ones i = (i ≤ countOf file) �
 abbrev μ-loop : tie.MeasureT-loop
 μ-loop file list widths₀ ones₀ i₀ widths ones i = countOf file - i
 
--- src/tally.rt:25:5
 loop-holds : tie.Need-loop-holds Inv-loop μ-loop
 unfolding sumTo
 loop-holds c = (omega arith, record { width-sum = refl; ones-sum = refl })
 
--- src/tally.rt:26:19
 width-at-requires : tie.Need-width-at-requires Inv-loop μ-loop
 unfolding designOf
 width-at-requires c κs = holds-record (now (c .before .before .before .before .args .file)) (c .before .before .before .before .pre .0) (c .before .loop .i) (let e = c .before .before .before .before .pre .1 .size in let t = c .loop-test .taken in omega arith)
 
--- src/tally.rt:26:9
 add-widths : tie.Need-add-widths Inv-loop μ-loop
 unfolding designOf recordAt
 add-widths c = let a = c .before .before .before .before .before .pre in
@@ -43,20 +37,16 @@ add-widths c = let a = c .before .before .before .before .before .pre in
     let e = c .width-at .ensures in
     omega arith
 
--- src/tally.rt:27:28
 mul-count-ones : tie.Need-mul-count-ones Inv-loop μ-loop
 unfolding designOf
 mul-count-ones c = let f = c .before .before .before .before .before .pre .0 .sound .few in let g = c .before .before .loop .inv .0 in omega arith
 
--- src/tally.rt:27:28
 shared-slice-read-count-ones : tie.Need-shared-slice-read-count-ones Inv-loop μ-loop
 shared-slice-read-count-ones c = c .before .before .loop-test .taken
 
--- src/tally.rt:27:17
 count-ones-requires : tie.Need-count-ones-requires Inv-loop μ-loop
 count-ones-requires c κs = tt
 
--- src/tally.rt:27:9
 add-ones : tie.Need-add-ones Inv-loop μ-loop
 unfolding designOf
 add-ones c = let a = c .before .before .before .before .before .before .before .pre in
@@ -67,17 +57,14 @@ add-ones c = let a = c .before .before .before .before .before .before .before .
     let e = c .count-ones .ensures in
     omega arith
 
--- src/tally.rt:28:9
 add-i : tie.Need-add-i Inv-loop μ-loop
 unfolding designOf
 add-i c = let f = c .before .before .before .before .before .before .before .pre .0 .sound .few in let g = c .before .before .before .before .loop .inv .0 in omega arith
 
--- src/tally.rt:25:5
 loop-less : tie.Need-loop-less Inv-loop μ-loop
 unfolding designOf
 loop-less c = let e = c .before .before .before .before .before .before .before .pre .1 .size in let t = c .before .before .before .loop-test .taken in omega arith
 
--- src/tally.rt:25:5
 loop-again : tie.Need-loop-again Inv-loop μ-loop
 unfolding designOf recordAt
 loop-again c = let e = c .before .before .before .before .before .before .before .pre .1 .size in
@@ -86,7 +73,6 @@ loop-again c = let e = c .before .before .before .before .before .before .before
       counted-next (designOf (now (c .before .before .before .before .before .before .before .args .file))) (now (c .before .before .before .before .before .before .before .args .list)) _ _ (c .before .before .before .before .loop .i) _ _ (c .before .before .before .before .loop .inv .1) (c .before .before .width-at .ensures) (c .count-ones .ensures),
     )
 
--- src/tally.rt:18:1
 returns : tie.Need-returns Inv-loop μ-loop
 unfolding designOf
 returns c = let e = c .before .before .before .before .pre .1 .size in
@@ -94,10 +80,10 @@ returns c = let e = c .before .before .before .before .pre .1 .size in
     let g = c .before .loop .inv .0 in
     let q : c .before .loop .i ≡ countOf (now (c .before .before .before .before .args .file)) = omega arith in
     let s = subst (λ (n : ℕ). Counted (designOf (now (c .before .before .before .before .args .file))) (now (c .before .before .before .before .args .list)) (c .before .loop .widths) (c .before .loop .ones) n) q (c .before .loop .inv .1) in
-    ap₂ Tally (s .width-sum) (s .ones-sum)
+    ap₂ tally (s .width-sum) (s .ones-sum)
 
-pub tally-spec : {M : Type 1} → statement M
-tally-spec =
+pub tally-of-spec : {M : Type 1} → statement M
+tally-of-spec =
     tie.close
     (tie.spec
     Inv-loop
