@@ -18,19 +18,25 @@ extern "C" {
    Accepted: bit 63 is 0, and the function says what the number means.
    Refused:  bit 63 is 1, bits 32 to 62 hold the refusal number, and bits 0
              to 31 hold the number of the record that was refused. Records
-             are counted from 0. Refusals 1 to 5 concern the whole file, and
-             their record number is 0. */
+             are counted from 0. Refusals 1 to 5 and 11 concern no single
+             record, and their record number is 0. */
 
 #define PCN_REFUSED(answer) ((int)((uint64_t)(answer) >> 63))
 #define PCN_REFUSAL(answer) \
     ((uint32_t)((uint64_t)(answer) >> 32) & (uint32_t)0x7fffffff)
 #define PCN_RECORD(answer) ((uint32_t)((uint64_t)(answer) & 0xffffffffu))
 
+/* The tally, in an accepted answer of a function that says so: the sum of
+   all widths, and the count of ones over all masks. */
+
+#define PCN_TALLY_WIDTH(answer) ((uint32_t)((uint64_t)(answer) >> 32))
+#define PCN_TALLY_ONES(answer) ((uint32_t)((uint64_t)(answer) & 0xffffffffu))
+
 /* The refusal numbers.
 
    They are tried in this order: first 1 to 5 for the whole file, then 6 to
-   10 for record 0, then 6 to 10 for record 1, and so on. The first that
-   applies is the answer.
+   10 for record 0, then 6 to 10 for record 1, and so on, and at last 11. The
+   first that applies is the answer.
 
     1  The file is shorter than its header of 8 bytes.
     2  The file does not begin with the letters PCN, or byte 5 is not 0.
@@ -48,6 +54,7 @@ extern "C" {
    10  A field that the kind does not use is not 0, or the keep word has a
        bit beyond the width, or so has the value of a constant or the reset
        state of a register.
+   11  The mask list has not 8 bytes for each record.
 
    A register may read a record that has not been looked at yet. Refusals 8
    and 9 then go by that record's kind byte and width byte as they stand. */
@@ -62,23 +69,39 @@ enum pcn_refusal {
     PCN_BAD_WIDTH = 7,
     PCN_BAD_OPERAND = 8,
     PCN_BAD_WIDTH_RULE = 9,
-    PCN_UNUSED_BIT = 10
+    PCN_UNUSED_BIT = 10,
+    PCN_BAD_LIST = 11
 };
 
 /* Rules for callers.
 
    - `file` must point to `length` bytes that can be read. For length 0 any
      pointer will do that is not null.
-   - Nobody may change these bytes until the call has returned.
-   - The pointer needs no alignment.
-   - Numbers in the file are little-endian.
+   - `masks` must point to `masks_length` bytes that can be read and written.
+     For length 0 any pointer will do that is not null. They may hold
+     anything before the call.
+   - The mask list and the file may not overlap.
+   - Nobody may change these bytes until the call has returned, and nobody
+     may read the mask list until then.
+   - The pointers need no alignment.
+   - Numbers in the file and in the mask list are little-endian.
 
-   What callers may rely on: the function writes nothing, allocates nothing
-   and keeps no state between calls, so several threads may call it at the
-   same time, also for the same bytes. */
+   What callers may rely on: the functions change no byte but those of the
+   mask list, allocate nothing and keep no state between calls, so several
+   threads may call them at the same time, also for the same file, each with
+   a mask list of its own. A refused call changes no byte at all. */
 
 /* Checks a netlist file. Accepted: the answer is the count of records. */
 uint64_t pcn_check(const uint8_t *file, size_t length);
+
+/* Works out which bits of each signal can reach an output.
+
+   Refused as pcn_check refuses the file, and then by 11. Accepted: the
+   answer holds the tally, and all bytes of the mask list are written. The
+   mask of record i is the word of 8 bytes that begins at byte 8 * i. It has
+   no bit beyond the width of the record. */
+uint64_t pcn_masks(const uint8_t *file, size_t length, uint8_t *masks,
+                   size_t masks_length);
 
 #ifdef __cplusplus
 }

@@ -1,122 +1,111 @@
-/* Times the library's operations against the plain model, in one process.
-   Assumes a quiet machine; it prints times and demands none. */
-
-#define _POSIX_C_SOURCE 199309L
+/* Times the library's operations beside plain C, in one process.
+   Assumes a quiet machine; it prints times and demands equal answers only. */
 
 #include <inttypes.h>
 #include <stdio.h>
-#include <time.h>
+#include <string.h>
 
 #include "../../include/pcn.h"
 #include "../model/model.h"
-#include "../outside/designs.h"
+#include "sweeps.h"
+#include "timing.h"
+#include "workloads.h"
 
-enum { ROUNDS = 15, ROUND_MICROSECONDS = 20000, SEED = 7 };
-
-static struct netlist net;
-static struct file file;
-
-/* Keeps the answers in use, so that no call can be left out. */
-static volatile uint64_t sink;
-
-typedef uint64_t operation(void);
-
-static uint64_t library_check(void)
+static uint64_t library_check(const struct lent *lent)
 {
-    return pcn_check(file.bytes, file.length);
+    return pcn_check(lent->file, lent->length);
 }
 
-static uint64_t plain_check(void)
+static uint64_t plain_check(const struct lent *lent)
 {
-    return model_check(file.bytes, file.length);
+    return model_check(lent->file, lent->length);
 }
 
-/* One row for each operation; both must give the same answer. */
+static uint64_t library_masks(const struct lent *lent)
+{
+    return pcn_masks(lent->file, lent->length, lent->list, lent->list_length);
+}
+
+static uint64_t plain_masks(const struct lent *lent)
+{
+    return sweeps_masks(lent->file, lent->length, lent->list,
+                        lent->list_length);
+}
+
+enum { COUNTS = 4 };
+
+/* The rows of an operation on one sort of design; count 0 is no row. */
 static const struct row {
     const char *name;
     operation *library;
-    operation *model;
+    operation *plain;
+    workload_maker *make;
+    uint32_t counts[COUNTS];
 } rows[] = {
-    { "check", library_check, plain_check }
+    { "check, all kinds", library_check, plain_check, all_kinds,
+      { 64, 256, 1024, 2048 } },
+    { "masks, feedback", library_masks, plain_masks, feedback,
+      { 64, 256, 1024, 2048 } },
+    { "masks, combinational", library_masks, plain_masks, combinational,
+      { 64, 256, 1024, 2048 } },
+    { "masks, 2,000 registers", library_masks, plain_masks, chain,
+      { 2002, 0, 0, 0 } }
 };
 
-static double microseconds(void)
+/* Both must give the same answer and leave the same bytes in the list. */
+static int same_results(const struct row *row, const struct workload *work)
 {
-    struct timespec now;
+    static uint8_t library_list[8 * COUNT_LIMIT];
+    uint32_t i;
 
-    clock_gettime(CLOCK_MONOTONIC, &now);
-    return (double)now.tv_sec * 1e6 + (double)now.tv_nsec / 1e3;
-}
+    for (i = 0; i < work->files; i++) {
+        const struct lent *lent = &work->lent[i];
+        uint64_t library, plain;
 
-static double time_calls(operation *call, unsigned long calls)
-{
-    double start = microseconds();
-    unsigned long i;
-
-    for (i = 0; i < calls; i++)
-        sink = call();
-    return microseconds() - start;
-}
-
-/* Enough calls for one round; they also warm the cache. */
-static unsigned long calls_per_round(operation *call)
-{
-    unsigned long calls = 1;
-
-    while (time_calls(call, calls) < ROUND_MICROSECONDS)
-        calls *= 2;
-    return calls;
-}
-
-/* The two take turns, so that a change of clock speed meets both. */
-static void time_row(const struct row *row, uint32_t count)
-{
-    unsigned long library_calls = calls_per_round(row->library);
-    unsigned long model_calls = calls_per_round(row->model);
-    double library = 1e300, model = 1e300;
-    int i;
-
-    for (i = 0; i < ROUNDS; i++) {
-        double one = time_calls(row->library, library_calls)
-                   / (double)library_calls;
-        double two = time_calls(row->model, model_calls)
-                   / (double)model_calls;
-
-        library = one < library ? one : library;
-        model = two < model ? two : model;
+        memset(lent->list, 0x55, lent->list_length);
+        library = row->library(lent);
+        memcpy(library_list, lent->list, lent->list_length);
+        memset(lent->list, 0x55, lent->list_length);
+        plain = row->plain(lent);
+        if (library != plain
+            || memcmp(library_list, lent->list, lent->list_length) != 0)
+            return 0;
     }
-    printf("%-8s %7" PRIu32 " %12.3f %12.3f %9.2f %12.2f %12.2f\n",
-           row->name, count, library, model, library / model,
-           library * 1e3 / count, model * 1e3 / count);
-    fflush(stdout);
+    return 1;
 }
 
 static int run_row(const struct row *row, uint32_t count)
 {
-    struct rng rng = rng_for(SEED, count);
+    static struct workload work;
+    struct times times;
 
-    design_make(&rng, &net, count);
-    netlist_write(&net, &file);
-    if (row->library() != row->model()) {
-        printf("%s: the answers differ at %" PRIu32 " records\n", row->name,
+    row->make(&work, count);
+    if (!same_results(row, &work)) {
+        printf("%s: the results differ at %" PRIu32 " records\n", row->name,
                count);
         return 0;
     }
-    time_row(row, count);
+    times = time_both(row->library, row->plain, &work);
+    printf("%-22s %7" PRIu32 " %12.3f %12.3f %7.2f %11.2f %11.2f\n",
+           row->name, count, times.library, times.plain,
+           times.library / times.plain, times.library * 1e3 / count,
+           times.plain * 1e3 / count);
+    fflush(stdout);
     return 1;
 }
 
 int main(void)
 {
-    static const uint32_t counts[] = { 64, 256, 1024, 2048 };
     size_t i, j;
     int same = 1;
 
-    printf("best of %d rounds, valid designs of all kinds\n", ROUNDS);
-    printf("%-8s %7s %12s %12s %9s %12s %12s\n", "", "records", "library us",
-           "model us", "ratio", "lib ns/rec", "model ns/rec");
+    printf("best of %d rounds; plain is the model's check, and for masks whole"
+           " sweeps in C\n", ROUNDS);
+    printf("%-22s %7s %12s %12s %7s %11s %11s\n", "", "records", "library us",
+           "plain us", "ratio", "lib ns/rec", "plain ns/rec");
     for (i = 0; i < sizeof rows / sizeof *rows; i++)
-        for (j = 0; j < sizeof counts / sizeof *counts; j++)
-            same &= run_row(&rows[i], counts[j]);
+        for (j = 0; j < COUNTS; j++)
+            if (rows[i].counts[j] != 0)
+                same &= run_row(&rows[i], rows[i].counts[j]);
     return same ? 0 : 1;
 }

@@ -16,4 +16,9 @@ static inline uint64_t model_refused(unsigned refusal, uint32_t record)
 /* The count of records, or the first refusal that applies. */
 uint64_t model_check(const uint8_t *file, size_t length);
 
+/* Fills the mask list and gives the tally; refused, it leaves the list as it
+   was. The list and the file may not overlap. */
+uint64_t model_masks(const uint8_t *file, size_t length, uint8_t *masks,
+                     size_t masks_length);
+
 #endif

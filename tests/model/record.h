@@ -1,5 +1,5 @@
-/* The plain model's view of a netlist file: limits, kinds, and field readers.
-   Assumes file version 1 as in 01, and that callers stay inside the file. */
+/* The plain model's view of bytes: limits, kinds, fields of a netlist file.
+   Assumes file version 1 as in 01, and that callers stay inside the bytes. */
 
 #ifndef MODEL_RECORD_H
 #define MODEL_RECORD_H
@@ -53,6 +53,14 @@ static inline uint64_t read_64(const uint8_t *bytes)
          | (uint64_t)bytes[2] << 16 | (uint64_t)bytes[3] << 24
          | (uint64_t)bytes[4] << 32 | (uint64_t)bytes[5] << 40
          | (uint64_t)bytes[6] << 48 | (uint64_t)bytes[7] << 56;
+}
+
+static inline void write_64(uint8_t *bytes, uint64_t number)
+{
+    int i;
+
+    for (i = 0; i < 8; i++)
+        bytes[i] = (uint8_t)(number >> 8 * i);
 }
 
 static inline const uint8_t *record_at(const uint8_t *file, uint32_t number)

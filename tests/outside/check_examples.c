@@ -3,8 +3,9 @@
 
 #include "../../include/pcn.h"
 #include "check_parts.h"
+#include "check_trial.h"
+#include "examples.h"
 #include "report.h"
-#include "trial.h"
 
 static struct netlist net;
 
@@ -26,76 +27,34 @@ static void end_refused(unsigned refusal, uint32_t record)
     test_end();
 }
 
-/* Written out byte by byte, so that a slip in the tests' own writer shows. */
-static void ramp_bytes(void)
+static void made_accepted(const char *name)
 {
-    static const uint8_t bytes[8 + 24 * 7] = {
-        'P', 'C', 'N', 1, 0, 0, 7, 0,
-        0, 32, 0, 0, 0, 0, 0, 0, 0, 0, 0, 0, 0, 0, 0, 0,
-        255, 255, 255, 255, 0, 0, 0, 0,
-        0, 32, 0, 0, 0, 0, 0, 0, 0, 0, 0, 0, 0, 0, 0, 0,
-        255, 255, 255, 255, 0, 0, 0, 0,
-        0, 32, 0, 0, 0, 0, 0, 0, 0, 0, 0, 0, 0, 0, 0, 0,
-        255, 255, 255, 255, 0, 0, 0, 0,
-        12, 32, 0, 0, 1, 0, 0, 0, 0, 0, 0, 0, 0, 0, 0, 0,
-        255, 255, 255, 255, 0, 0, 0, 0,
-        10, 32, 3, 0, 2, 0, 0, 0, 0, 0, 0, 0, 0, 0, 0, 0,
-        255, 255, 255, 255, 0, 0, 0, 0,
-        4, 16, 4, 0, 0, 0, 0, 0, 0, 0, 0, 0, 0, 0, 0, 0,
-        255, 255, 0, 0, 0, 0, 0, 0,
-        3, 16, 5, 0, 0, 0, 0, 0, 0, 0, 0, 0, 0, 0, 0, 0,
-        255, 255, 0, 0, 0, 0, 0, 0
-    };
+    test_begin(name);
+    end_accepted();
+}
 
+static void whole_designs(void)
+{
     test_begin("example: ramp, given byte by byte");
-    expect_bytes(bytes, sizeof bytes, 7);
+    expect_bytes(ramp_bytes, RAMP_BYTES, 7);
     test_end();
+
+    example_ramp(&net, 16, 0);
+    made_accepted("example: ramp");
+    example_ramp(&net, 8, 8);
+    made_accepted("example: ramp with extract of width 8 at 8");
+    example_counter(&net);
+    made_accepted("example: counter");
+    example_shift_chain(&net);
+    made_accepted("example: shift chain");
+    example_swapped_pair(&net);
+    made_accepted("example: two registers that read each other");
+    example_unread_mux(&net);
+    made_accepted("example: a mux that nobody reads");
 }
 
-static void ramp(uint8_t width, uint64_t k)
+static void values(void)
 {
-    netlist_input(&net, 32);
-    netlist_input(&net, 32);
-    netlist_input(&net, 32);
-    netlist_add(&net, KIND_MUL, 32, 0, 1, 0, 0);
-    netlist_add(&net, KIND_ADD, 32, 3, 2, 0, 0);
-    netlist_add(&net, KIND_EXTRACT, width, 4, 0, 0, k);
-    netlist_add(&net, KIND_OUTPUT, width, 5, 0, 0, 0);
-    end_accepted();
-}
-
-static void clocked_designs(void)
-{
-    begin("example: counter");
-    netlist_add(&net, KIND_REGISTER, 8, 2, 0, 0, 0);
-    netlist_add(&net, KIND_CONSTANT, 8, 0, 0, 0, 1);
-    netlist_add(&net, KIND_ADD, 8, 0, 1, 0, 0);
-    end_accepted();
-
-    begin("example: shift chain");
-    netlist_input(&net, 1);
-    netlist_add(&net, KIND_REGISTER, 4, 3, 0, 0, 0);
-    netlist_add(&net, KIND_EXTRACT, 3, 1, 0, 0, 1);
-    netlist_add(&net, KIND_CONCAT, 4, 0, 2, 0, 0);
-    netlist_add(&net, KIND_EXTRACT, 1, 1, 0, 0, 0);
-    netlist_add(&net, KIND_OUTPUT, 1, 4, 0, 0, 0);
-    end_accepted();
-
-    begin("example: two registers that read each other");
-    netlist_add(&net, KIND_REGISTER, 8, 1, 0, 0, 1);
-    netlist_add(&net, KIND_REGISTER, 8, 0, 0, 0, 2);
-    end_accepted();
-}
-
-static void plain_designs(void)
-{
-    begin("example: a mux that nobody reads");
-    netlist_input(&net, 1);
-    netlist_input(&net, 8);
-    netlist_input(&net, 8);
-    netlist_add(&net, KIND_MUX, 8, 0, 1, 2, 0);
-    end_accepted();
-
     begin("example: 0 - 1 at width 8");
     netlist_add(&net, KIND_CONSTANT, 8, 0, 0, 0, 0);
     netlist_add(&net, KIND_CONSTANT, 8, 0, 0, 0, 1);
@@ -183,6 +142,7 @@ static void taking_answers_apart(void)
 {
     uint64_t refused = 0x80000009000007ffu;
     uint64_t accepted = 2048;
+    uint64_t tally = 0x0002000000000070u;
 
     test_begin("an answer is taken apart by the header's helpers");
     if (!PCN_REFUSED(refused) || PCN_REFUSED(accepted))
@@ -191,18 +151,15 @@ static void taking_answers_apart(void)
         test_fail();
     if (PCN_RECORD(refused) != 2047)
         test_fail();
+    if (PCN_TALLY_WIDTH(tally) != 131072 || PCN_TALLY_ONES(tally) != 112)
+        test_fail();
     test_end();
 }
 
 void check_examples(void)
 {
-    ramp_bytes();
-    begin("example: ramp");
-    ramp(16, 0);
-    begin("example: ramp with extract of width 8 at 8");
-    ramp(8, 8);
-    clocked_designs();
-    plain_designs();
+    whole_designs();
+    values();
     counts();
     widths();
     operands();

@@ -4,6 +4,7 @@
 #include <string.h>
 
 #include "check_parts.h"
+#include "check_trial.h"
 #include "report.h"
 #include "trial.h"
 
@@ -11,7 +12,7 @@ static const uint8_t empty[8] = { 'P', 'C', 'N', 1, 0, 0, 0, 0 };
 
 static uint64_t refused(unsigned refusal)
 {
-    return 0x8000000000000000u + 0x100000000u * (uint64_t)refusal;
+    return refused_answer(refusal, 0);
 }
 
 static void too_short(void)

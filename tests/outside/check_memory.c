@@ -8,6 +8,7 @@
 
 #include "../../include/pcn.h"
 #include "check_parts.h"
+#include "check_trial.h"
 #include "designs.h"
 #include "guard.h"
 #include "report.h"
@@ -24,13 +25,6 @@ static void make_file(uint64_t index, uint32_t count)
     netlist_write(&net, &file);
 }
 
-static void demand(uint64_t answer, uint64_t right)
-{
-    if (answer != right && test_fail())
-        printf("      answer %016" PRIx64 " instead of %016" PRIx64 "\n",
-               answer, right);
-}
-
 static void alignments(void)
 {
     size_t offset;
@@ -44,7 +38,7 @@ static void alignments(void)
         if (block == NULL)
             exit(2);
         memcpy(block + offset, file.bytes, file.length);
-        demand(pcn_check(block + offset, file.length), 100);
+        demand_answer(pcn_check(block + offset, file.length), 100);
         free(block);
     }
     test_end();
@@ -52,18 +46,21 @@ static void alignments(void)
 
 static void forbidden_before(void)
 {
+    static const struct placing at_front = { AT_FRONT, 0, 0 };
     uint32_t count;
 
     test_begin("nothing before the file is read");
     for (count = 0; count < 200; count++) {
+        struct lent lent = { file.bytes, 0, NULL, 0 };
         uint64_t answer = 0;
 
         make_file(count, count);
-        if (!guarded_call_front(pcn_check, file.bytes, file.length, &answer)
+        lent.length = file.length;
+        if (!guarded_call(library_check, &lent, &at_front, &answer)
             && test_fail())
             printf("      stepped outside a file of %" PRIu32 " records\n",
                    count);
-        demand(answer, count);
+        demand_answer(answer, count);
     }
     test_end();
 }
@@ -75,13 +72,18 @@ static void huge_lengths(void)
 
     test_begin("5: a length that is right but for 2^32 more");
     for (count = 0; count < 3; count++) {
-        uint64_t answer = 0;
+        size_t length;
+        uint8_t *bytes;
 
         make_file(count, count);
-        if (!sparse_call(pcn_check, file.bytes, file.length,
-                         file.length + 0x100000000u, &answer))
+        length = file.length + 0x100000000u;
+        bytes = sparse_bytes(file.bytes, file.length, length);
+        if (bytes == NULL) {
             test_fail();
-        demand(answer, 0x8000000500000000u);
+            break;
+        }
+        demand_answer(pcn_check(bytes, length), refused_answer(5, 0));
+        sparse_free(bytes, length);
     }
     test_end();
 }

@@ -2,47 +2,11 @@
    Assumes the order of 01: records rising, and 6 to 10 within a record. */
 
 #include "check_parts.h"
+#include "check_trial.h"
+#include "fixture.h"
 #include "report.h"
-#include "trial.h"
 
 static struct netlist net;
-
-/* Two inputs of 8 bits, one of 9, then two adds of the first two. */
-enum { NINE = 2, FIRST = 3, SECOND = 4 };
-
-static void make_adds(void)
-{
-    netlist_clear(&net);
-    netlist_input(&net, 8);
-    netlist_input(&net, 8);
-    netlist_input(&net, 9);
-    netlist_add(&net, KIND_ADD, 8, 0, 1, 0, 0);
-    netlist_add(&net, KIND_ADD, 8, 0, 1, 0, 0);
-}
-
-/* Breaks one rule of an add; each break uses a field of its own. */
-static void break_add(uint32_t number, unsigned refusal)
-{
-    struct record *record = &net.records[number];
-
-    switch (refusal) {
-    case 6:
-        record->kind = 15;
-        break;
-    case 7:
-        record->width = 65;
-        break;
-    case 8:
-        record->operand[0] = number;
-        break;
-    case 9:
-        record->operand[1] = NINE;
-        break;
-    default:
-        record->operand[2] = 1;
-        break;
-    }
-}
 
 static void within_a_record(void)
 {
@@ -50,15 +14,15 @@ static void within_a_record(void)
 
     test_begin("6 to 10: of several in one record, the lowest number wins");
     for (choice = 1; choice < 32; choice++) {
-        make_adds();
+        adds_make(&net);
         lowest = 0;
         for (refusal = 10; refusal >= 6; refusal--) {
             if (choice & 1u << (refusal - 6)) {
-                break_add(FIRST, refusal);
+                adds_break(&net, ADDS_FIRST, refusal);
                 lowest = refusal;
             }
         }
-        expect_refused(&net, lowest, FIRST);
+        expect_refused(&net, lowest, ADDS_FIRST);
     }
     test_end();
 }
@@ -70,10 +34,10 @@ static void between_records(void)
     test_begin("6 to 10: the lowest record wins, whatever its number");
     for (one = 6; one <= 10; one++) {
         for (two = 6; two <= 10; two++) {
-            make_adds();
-            break_add(FIRST, one);
-            break_add(SECOND, two);
-            expect_refused(&net, one, FIRST);
+            adds_make(&net);
+            adds_break(&net, ADDS_FIRST, one);
+            adds_break(&net, ADDS_SECOND, two);
+            expect_refused(&net, one, ADDS_FIRST);
         }
     }
     test_end();

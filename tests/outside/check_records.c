@@ -2,9 +2,9 @@
    Assumes the netlist of fixture.h, with one field changed at a time. */
 
 #include "check_parts.h"
-#include "report.h"
+#include "check_trial.h"
 #include "fixture.h"
-#include "trial.h"
+#include "report.h"
 
 static struct netlist net;
 static struct record *const tested = &net.records[FIXTURE_TESTED];

@@ -1,84 +1,32 @@
-/* Hands files to the library and the model, compares, and saves failures.
-   Assumes that the two answers for one file must be equal in all 64 bits. */
+/* Hands files to pcn_check and to the model, and compares the answers.
+   Assumes that two calls for the same bytes must give the same answer. */
 
-#include "trial.h"
+#include "check_trial.h"
 
-#include <inttypes.h>
-#include <stdio.h>
 #include <stdlib.h>
 #include <string.h>
 
 #include "../../include/pcn.h"
 #include "../model/model.h"
 #include "guard.h"
-#include "report.h"
+#include "trial.h"
 
-static uint64_t run_seed;
-static const char *save_directory = ".";
-static unsigned long made;
 static struct file scratch;
 
-void trials_begin(uint64_t seed, const char *directory)
+uint64_t library_check(const struct lent *lent)
 {
-    run_seed = seed;
-    save_directory = directory;
-}
-
-unsigned long trials_made(void)
-{
-    return made;
-}
-
-static void print_answer(const char *who, uint64_t answer)
-{
-    if (PCN_REFUSED(answer))
-        printf("      %s: refused %" PRIu32 " at record %" PRIu32, who,
-               PCN_REFUSAL(answer), PCN_RECORD(answer));
-    else
-        printf("      %s: accepted, %" PRIu64 " records", who, answer);
-    printf(" (%016" PRIx64 ")\n", answer);
-}
-
-static void save_file(const uint8_t *bytes, size_t length)
-{
-    char path[4096];
-    FILE *out;
-
-    snprintf(path, sizeof path, "%s/failed-%" PRIu64 "-%lu.pcn",
-             save_directory, run_seed, made);
-    out = fopen(path, "wb");
-    if (out == NULL || fwrite(bytes, 1, length, out) != length)
-        printf("      could not save %s\n", path);
-    else
-        printf("      saved %s\n", path);
-    if (out != NULL)
-        fclose(out);
-}
-
-/* A heap block of exactly the file's length, so that the address sanitizer
-   sees a step beyond it. For length 0 the pointer is just behind a block. */
-static uint8_t *heap_copy(const uint8_t *bytes, size_t length, void **block)
-{
-    uint8_t *copy = malloc(length == 0 ? 1 : length);
-
-    if (copy == NULL) {
-        perror("heap");
-        exit(2);
-    }
-    *block = copy;
-    if (length == 0)
-        return copy + 1;
-    memcpy(copy, bytes, length);
-    return copy;
+    return pcn_check(lent->file, lent->length);
 }
 
 /* What is wrong with the library's calls for this file, or null. */
 static const char *library_fault(const uint8_t *bytes, size_t length,
                                  const uint8_t *heap, uint64_t *answer)
 {
+    static const struct placing at_end = { AT_END, 0, 0 };
+    struct lent lent = { bytes, length, NULL, 0 };
     uint64_t again;
 
-    if (!guarded_call(pcn_check, bytes, length, answer))
+    if (!guarded_call(library_check, &lent, &at_end, answer))
         return "the library stepped outside the file or wrote to it";
     again = pcn_check(heap, length);
     if (length != 0 && memcmp(heap, bytes, length) != 0)
@@ -94,26 +42,14 @@ static uint64_t run_trial(const uint8_t *bytes, size_t length,
 {
     void *block;
     uint8_t *heap = heap_copy(bytes, length, &block);
-    uint64_t library = 0;
-    const char *fault = library_fault(bytes, length, heap, &library);
-    uint64_t model = model_check(heap, length);
+    struct verdict verdict = { NULL, 0, 0, known };
 
-    if (fault == NULL && library != model)
-        fault = "the library and the model differ";
-    if (fault == NULL && known != NULL && library != *known)
-        fault = "the answer is not the one demanded";
-    if (fault != NULL && test_fail()) {
-        printf("      file %lu, %lu bytes: %s\n", made,
-               (unsigned long)length, fault);
-        print_answer("library", library);
-        print_answer("model", model);
-        if (known != NULL)
-            print_answer("demanded", *known);
-        save_file(bytes, length);
-    }
+    verdict.fault = library_fault(bytes, length, heap, &verdict.library);
+    verdict.model = model_check(heap, length);
+    judge_answers(&verdict);
+    trial_end(bytes, length, &verdict);
     free(block);
-    made++;
-    return model;
+    return verdict.model;
 }
 
 uint64_t try_file(const uint8_t *bytes, size_t length)
@@ -135,9 +71,7 @@ void expect_accepted(const struct netlist *net)
 void expect_refused(const struct netlist *net, unsigned refusal,
                     uint32_t record)
 {
-    uint64_t answer = 0x8000000000000000u;
-
-    answer += 0x100000000u * (uint64_t)refusal + record;
     netlist_write(net, &scratch);
-    expect_bytes(scratch.bytes, scratch.length, answer);
+    expect_bytes(scratch.bytes, scratch.length,
+                 refused_answer(refusal, record));
 }

@@ -1,19 +1,17 @@
-/* One trial: a file is handed to the library and to the model.
+/* One trial of pcn_check: a file is handed to the library and to the model.
    Assumes that a named test has begun, which notes every difference. */
 
-#ifndef TRIAL_H
-#define TRIAL_H
+#ifndef CHECK_TRIAL_H
+#define CHECK_TRIAL_H
 
 #include <stddef.h>
 #include <stdint.h>
 
+#include "lent.h"
 #include "netlist.h"
 
-/* Where failing files go, and the seed that their names carry. */
-void trials_begin(uint64_t seed, const char *directory);
-
-/* The count of files tried so far. */
-unsigned long trials_made(void);
+/* pcn_check as an operation on lent memory. */
+operation library_check;
 
 /* Compares the library with the model and gives the model's answer. */
 uint64_t try_file(const uint8_t *bytes, size_t length);

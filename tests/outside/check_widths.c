@@ -5,8 +5,8 @@
 #include <stdio.h>
 
 #include "check_parts.h"
+#include "check_trial.h"
 #include "report.h"
-#include "trial.h"
 
 enum { TESTED = 3 };
 

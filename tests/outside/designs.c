@@ -5,8 +5,10 @@
 
 #include <string.h>
 
-/* The records that may be read so far, all together and by their width. */
+/* The records that may be read so far, all together and by their width, and
+   how many of the last of them are chosen from. */
 static struct {
+    uint32_t recent;
     uint32_t all_count;
     uint32_t all[COUNT_LIMIT];
     uint32_t count[WIDTH_LIMIT + 1];
@@ -20,7 +22,10 @@ struct widths {
     uint8_t list[WIDTH_LIMIT];
 };
 
-enum keep_style { KEEP_FULL, KEEP_MIXED };
+/* All kinds alike. */
+static const struct style every_kind = {
+    { 1, 1, 1, 1, 1, 1, 1, 1, 1, 1, 1, 1, 1, 1, 1 }, 0, 0, 0, KEEP_ANY
+};
 
 uint32_t design_count(struct rng *rng, uint32_t least)
 {
@@ -80,14 +85,24 @@ static uint8_t any_width(struct rng *rng, const struct widths *widths)
     return widths->list[rng_below(rng, widths->count)];
 }
 
+/* One of the records in the list, or of the last few. */
+static uint32_t pick(struct rng *rng, const uint32_t *list, uint32_t count)
+{
+    uint32_t from = readable.recent;
+
+    if (from == 0 || from > count)
+        from = count;
+    return list[count - 1 - rng_below(rng, from)];
+}
+
 static uint32_t any_readable(struct rng *rng)
 {
-    return readable.all[rng_below(rng, readable.all_count)];
+    return pick(rng, readable.all, readable.all_count);
 }
 
 static uint32_t readable_of(struct rng *rng, uint8_t width)
 {
-    return readable.list[width][rng_below(rng, readable.count[width])];
+    return pick(rng, readable.list[width], readable.count[width]);
 }
 
 static void add_readable(uint32_t number, uint8_t width)
@@ -187,20 +202,69 @@ static int make_reader(struct rng *rng, struct netlist *net, uint8_t kind)
     }
 }
 
-static void make_record(struct rng *rng, struct netlist *net,
-                        const struct widths *widths, enum keep_style style)
+/* A source of a kind that the style has; inputs it may always have. */
+static void make_any_source(struct rng *rng, struct netlist *net,
+                            const struct style *style, uint8_t width)
 {
-    uint8_t kind = (uint8_t)rng_below(rng, KIND_COUNT);
+    uint8_t kind = (uint8_t)rng_below(rng, 3);
+
+    make_source(rng, net, style->share[kind] == 0 ? KIND_INPUT : kind, width);
+}
+
+static uint8_t draw_kind(struct rng *rng, const struct style *style)
+{
+    uint32_t all = 0, drawn;
+    uint8_t kind;
+
+    for (kind = 0; kind < KIND_COUNT; kind++)
+        all += style->share[kind];
+    drawn = rng_below(rng, all);
+    for (kind = 0; drawn >= style->share[kind]; kind++)
+        drawn -= style->share[kind];
+    return kind;
+}
+
+/* The kind of the next record: the ends of the design may be fixed. */
+static uint8_t next_kind(struct rng *rng, const struct style *style,
+                         uint32_t number, uint32_t count)
+{
+    if (number < count * style->opening / 64)
+        return KIND_INPUT;
+    if (count - number <= (count * style->closing + 63) / 64)
+        return KIND_OUTPUT;
+    return draw_kind(rng, style);
+}
+
+static uint64_t draw_keep(struct rng *rng, enum keep_style keep,
+                          unsigned width)
+{
+    uint64_t full = width_mask(width);
+
+    switch (keep) {
+    case KEEP_MIXED:
+        return design_word(rng, width);
+    case KEEP_MOSTLY:
+        return rng_once_in(rng, 4) ? design_word(rng, width) : full;
+    case KEEP_HOLES:
+        return full & ~((uint64_t)1 << rng_below(rng, 64))
+                    & ~((uint64_t)1 << rng_below(rng, width));
+    default:
+        return full;
+    }
+}
+
+static void make_record(struct rng *rng, struct netlist *net, uint8_t kind,
+                        const struct style *style,
+                        const struct widths *widths)
+{
     struct record *record = &net->records[net->count];
     uint32_t number = net->count;
+    uint8_t width = any_width(rng, widths);
 
     if (kind <= KIND_REGISTER)
-        make_source(rng, net, kind, any_width(rng, widths));
+        make_source(rng, net, kind, width);
     else if (!make_reader(rng, net, kind))
-        make_source(rng, net, (uint8_t)rng_below(rng, 3),
-                    any_width(rng, widths));
-    if (style == KEEP_MIXED)
-        record->keep = design_word(rng, record->width);
+        make_any_source(rng, net, style, width);
     if (record->kind != KIND_OUTPUT)
         add_readable(number, record->width);
 }
@@ -222,15 +286,37 @@ static void connect_registers(struct rng *rng, struct netlist *net)
     }
 }
 
-void design_make(struct rng *rng, struct netlist *net, uint32_t count)
+static void draw_keeps(struct rng *rng, struct netlist *net,
+                       enum keep_style keep)
+{
+    uint32_t i;
+
+    if (keep == KEEP_ANY)
+        keep = (enum keep_style)rng_below(rng, KEEP_ANY);
+    for (i = 0; i < net->count; i++)
+        net->records[i].keep = draw_keep(rng, keep, net->records[i].width);
+}
+
+void design_styled(struct rng *rng, struct netlist *net, uint32_t count,
+                   const struct style *style)
 {
     struct widths widths = pick_widths(rng);
-    enum keep_style style = rng_once_in(rng, 3) ? KEEP_FULL : KEEP_MIXED;
 
+    readable.recent = style->recent;
     readable.all_count = 0;
     memset(readable.count, 0, sizeof readable.count);
     netlist_clear(net);
-    while (net->count < count)
-        make_record(rng, net, &widths, style);
+    while (net->count < count) {
+        uint8_t kind = next_kind(rng, style, net->count, count);
+
+        make_record(rng, net, kind, style, &widths);
+    }
+    readable.recent = 0;
     connect_registers(rng, net);
+    draw_keeps(rng, net, style->keep);
+}
+
+void design_make(struct rng *rng, struct netlist *net, uint32_t count)
+{
+    design_styled(rng, net, count, &every_kind);
 }

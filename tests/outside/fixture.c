@@ -1,4 +1,4 @@
-/* Builds the small netlist around one tested record.
+/* Builds the small netlists around tested records.
    Assumes a width between fixture_least and fixture_most of the kind. */
 
 #include "fixture.h"
@@ -70,4 +70,37 @@ void fixture_make(struct netlist *net, uint8_t kind, unsigned width)
     netlist_add(net, KIND_OUTPUT, wide, FIXTURE_ONE, 0, 0, 0);
     add_tested(net, kind, (uint8_t)width);
     netlist_input(net, (uint8_t)width);
+}
+
+void adds_make(struct netlist *net)
+{
+    netlist_clear(net);
+    netlist_input(net, 8);
+    netlist_input(net, 8);
+    netlist_input(net, 9);
+    netlist_add(net, KIND_ADD, 8, 0, 1, 0, 0);
+    netlist_add(net, KIND_ADD, 8, 0, 1, 0, 0);
+}
+
+void adds_break(struct netlist *net, uint32_t number, unsigned refusal)
+{
+    struct record *record = &net->records[number];
+
+    switch (refusal) {
+    case 6:
+        record->kind = 15;
+        break;
+    case 7:
+        record->width = 65;
+        break;
+    case 8:
+        record->operand[0] = number;
+        break;
+    case 9:
+        record->operand[1] = ADDS_NINE;
+        break;
+    default:
+        record->operand[2] = 1;
+        break;
+    }
 }

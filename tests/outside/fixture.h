@@ -1,5 +1,5 @@
-/* A small valid netlist around one record of a chosen kind.
-   Assumes the tests then change single fields of the tested record. */
+/* Small valid netlists: around one record of any kind, or around two adds.
+   Assumes the tests then change single fields of the tested records. */
 
 #ifndef FIXTURE_H
 #define FIXTURE_H
@@ -23,5 +23,14 @@ unsigned fixture_most(uint8_t kind);
 
 /* Fills `net`; the width is that of the tested record. */
 void fixture_make(struct netlist *net, uint8_t kind, unsigned width);
+
+/* Two inputs of 8 bits, one of 9, then two adds of the first two. */
+enum { ADDS_NINE = 2, ADDS_FIRST = 3, ADDS_SECOND = 4 };
+
+void adds_make(struct netlist *net);
+
+/* Breaks one rule from 6 to 10 of an add; each break uses a field of its
+   own. */
+void adds_break(struct netlist *net, uint32_t number, unsigned refusal);
 
 #endif

@@ -1,4 +1,4 @@
-/* Calls a checker on memory where a step outside the file ends in a signal.
+/* Calls an operation on memory where a step outside ends in a signal.
    Assumes Linux memory mapping and pages of at most 64 KiB. */
 
 #define _GNU_SOURCE
@@ -19,13 +19,20 @@
 enum {
     PAGE = 65536,
     ROOM = (FILE_ROOM / PAGE + 1) * PAGE,
-    FORBIDDEN = ROOM
+    FORBIDDEN = ROOM,
+    MARGIN = 64,
+    MARGIN_BYTE = 0xa5
 };
 
-/* The same memory twice: the tests write to one view, the library reads the
-   other. Changing the protection for each call would take far longer. */
-static uint8_t *written;
-static const uint8_t *read_only;
+/* The same memory twice: the tests use one view, the library the other,
+   which has forbidden pages at both ends. Changing the protection for each
+   call would take far longer. */
+struct area {
+    uint8_t *ours;
+    uint8_t *lent;
+};
+
+static struct area file_area, list_area;
 static sigjmp_buf back;
 static volatile sig_atomic_t calling;
 
@@ -51,8 +58,7 @@ static void catch_faults(void)
     sigaction(SIGBUS, &action, NULL);
 }
 
-/* Maps the two views, with forbidden pages at each end of the second. */
-static int map_views(int memory)
+static int map_views(struct area *area, int memory, int protection)
 {
     uint8_t *all = mmap(NULL, ROOM + 2 * FORBIDDEN, PROT_NONE,
                         MAP_PRIVATE | MAP_ANONYMOUS, -1, 0);
@@ -60,73 +66,124 @@ static int map_views(int memory)
 
     if (all == MAP_FAILED)
         return 0;
-    written = mmap(NULL, ROOM, PROT_READ | PROT_WRITE, MAP_SHARED, memory, 0);
-    if (written == MAP_FAILED)
+    area->ours = mmap(NULL, ROOM, PROT_READ | PROT_WRITE, MAP_SHARED, memory,
+                      0);
+    if (area->ours == MAP_FAILED)
         return 0;
-    read_only = mmap(inner, ROOM, PROT_READ, MAP_SHARED | MAP_FIXED, memory,
-                     0);
-    return read_only == inner;
+    area->lent = mmap(inner, ROOM, protection, MAP_SHARED | MAP_FIXED, memory,
+                      0);
+    return area->lent == inner;
 }
 
-static void make_room(void)
+static void make_area(struct area *area, int protection)
 {
     int memory = memfd_create("netlist", 0);
 
-    if (memory < 0 || ftruncate(memory, ROOM) != 0 || !map_views(memory)) {
+    if (memory < 0 || ftruncate(memory, ROOM) != 0
+        || !map_views(area, memory, protection)) {
         perror("guarded memory");
         exit(2);
     }
     close(memory);
-    catch_faults();
 }
 
 /* The call and nothing else, so that no local is lost by the jump. */
-static int call(check_function *check, const uint8_t *file, size_t length,
-                uint64_t *answer)
+static int caught_call(operation *call, const struct lent *lent,
+                       uint64_t *answer)
 {
     if (sigsetjmp(back, 0) != 0) {
         calling = 0;
         return 0;
     }
     calling = 1;
-    *answer = check(file, length);
+    *answer = call(lent);
     calling = 0;
     return 1;
 }
 
-static int call_at(check_function *check, const uint8_t *bytes,
-                   size_t length, size_t offset, uint64_t *answer)
+static size_t offset_in_room(enum edge edge, size_t away, size_t length)
 {
-    if (read_only == NULL)
-        make_room();
-    memcpy(written + offset, bytes, length);
-    return call(check, read_only + offset, length, answer);
+    return edge == AT_FRONT ? away : ROOM - away - length;
 }
 
-int guarded_call(check_function *check, const uint8_t *bytes, size_t length,
-                 uint64_t *answer)
+/* The bytes before and behind the list that are not forbidden, up to a few:
+   they are marked before the call and looked at after it. */
+static size_t margin_before(size_t offset)
 {
-    return call_at(check, bytes, length, ROOM - length, answer);
+    return offset < MARGIN ? offset : MARGIN;
 }
 
-int guarded_call_front(check_function *check, const uint8_t *bytes,
-                       size_t length, uint64_t *answer)
+static size_t margin_behind(size_t end)
 {
-    return call_at(check, bytes, length, 0, answer);
+    return ROOM - end < MARGIN ? ROOM - end : MARGIN;
 }
 
-int sparse_call(check_function *check, const uint8_t *bytes, size_t used,
-                size_t length, uint64_t *answer)
+static void mark_margins(size_t offset, size_t length)
+{
+    uint8_t *list = list_area.ours + offset;
+    size_t before = margin_before(offset);
+
+    memset(list - before, MARGIN_BYTE, before);
+    memset(list + length, MARGIN_BYTE, margin_behind(offset + length));
+}
+
+static int margins_kept(size_t offset, size_t length)
+{
+    const uint8_t *list = list_area.ours + offset;
+    size_t before = margin_before(offset);
+    size_t behind = margin_behind(offset + length);
+    size_t i;
+
+    for (i = 1; i <= before; i++)
+        if (list[0 - i] != MARGIN_BYTE)
+            return 0;
+    for (i = 0; i < behind; i++)
+        if (list[length + i] != MARGIN_BYTE)
+            return 0;
+    return 1;
+}
+
+int guarded_call(operation *call, const struct lent *lent,
+                 const struct placing *placing, uint64_t *answer)
+{
+    size_t file_at = offset_in_room(placing->edge, placing->file_away,
+                                    lent->length);
+    size_t list_at = offset_in_room(placing->edge, placing->list_away,
+                                    lent->list_length);
+    struct lent copies = *lent;
+
+    if (file_area.ours == NULL) {
+        make_area(&file_area, PROT_READ);
+        make_area(&list_area, PROT_READ | PROT_WRITE);
+        catch_faults();
+    }
+    copies.file = file_area.lent + file_at;
+    copies.list = list_area.lent + list_at;
+    memcpy(file_area.ours + file_at, lent->file, lent->length);
+    mark_margins(list_at, lent->list_length);
+    if (lent->list_length != 0)
+        memcpy(list_area.ours + list_at, lent->list, lent->list_length);
+    if (!caught_call(call, &copies, answer))
+        return 0;
+    if (lent->list_length != 0)
+        memcpy(lent->list, list_area.ours + list_at, lent->list_length);
+    return margins_kept(list_at, lent->list_length);
+}
+
+uint8_t *sparse_bytes(const uint8_t *bytes, size_t used, size_t length)
 {
     uint8_t *all = mmap(NULL, length, PROT_READ | PROT_WRITE,
                         MAP_PRIVATE | MAP_ANONYMOUS | MAP_NORESERVE, -1, 0);
 
     if (all == MAP_FAILED) {
         perror("sparse memory");
-        return 0;
+        return NULL;
     }
     memcpy(all, bytes, used);
-    *answer = check(all, length);
-    munmap(all, length);
-    return 1;
+    return all;
+}
+
+void sparse_free(uint8_t *bytes, size_t length)
+{
+    munmap(bytes, length);
 }

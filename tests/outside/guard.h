@@ -1,5 +1,5 @@
-/* A read-only copy of a file with forbidden pages before and behind it.
-   Assumes Linux; one copy at a time in one thread. */
+/* Copies of a file and a mask list with forbidden pages on both sides.
+   Assumes Linux; one call at a time in one thread. */
 
 #ifndef GUARD_H
 #define GUARD_H
@@ -7,21 +7,27 @@
 #include <stddef.h>
 #include <stdint.h>
 
-typedef uint64_t check_function(const uint8_t *file, size_t length);
+#include "lent.h"
 
-/* Calls `check` on a copy that ends where forbidden memory begins. False
-   when the call read beyond the end or wrote to the file. The address
-   sanitizer cannot see this in a library built without it. */
-int guarded_call(check_function *check, const uint8_t *bytes, size_t length,
-                 uint64_t *answer);
+/* Where the copies lie: so many bytes before forbidden memory begins, or so
+   many behind the place where it ends. */
+enum edge { AT_END, AT_FRONT };
 
-/* The same for a copy that begins where forbidden memory ends. */
-int guarded_call_front(check_function *check, const uint8_t *bytes,
-                       size_t length, uint64_t *answer);
+struct placing {
+    enum edge edge;
+    size_t file_away;
+    size_t list_away;
+};
 
-/* Calls `check` with these first bytes and zeros up to `length`, which may
-   be far above the memory there is. False also when it cannot be mapped. */
-int sparse_call(check_function *check, const uint8_t *bytes, size_t used,
-                size_t length, uint64_t *answer);
+/* Calls the operation on such copies, the file's read-only, and copies the
+   list back. False when the call stepped outside or wrote to the file. The
+   address sanitizer cannot see this in a library built without it. */
+int guarded_call(operation *call, const struct lent *lent,
+                 const struct placing *placing, uint64_t *answer);
+
+/* Memory that begins with these bytes and goes on with zeros up to `length`,
+   which may be far above the memory there is. Null if it cannot be had. */
+uint8_t *sparse_bytes(const uint8_t *bytes, size_t used, size_t length);
+void sparse_free(uint8_t *bytes, size_t length);
 
 #endif

@@ -15,3 +15,18 @@ int refused_width(const uint8_t *file, size_t length)
         return (int)PCN_RECORD(answer);
     return -1;
 }
+
+/* The bits that no output feels, or -1 when the mask list does not fit and
+   -2 when the file itself is refused. */
+long unfelt_bits(const uint8_t *file, size_t length, uint8_t *masks,
+                 size_t masks_length);
+
+long unfelt_bits(const uint8_t *file, size_t length, uint8_t *masks,
+                 size_t masks_length)
+{
+    uint64_t answer = pcn_masks(file, length, masks, masks_length);
+
+    if (PCN_REFUSED(answer))
+        return PCN_REFUSAL(answer) == PCN_BAD_LIST ? -1 : -2;
+    return (long)PCN_TALLY_WIDTH(answer) - (long)PCN_TALLY_ONES(answer);
+}

@@ -66,18 +66,19 @@ uint32_t netlist_input(struct netlist *net, uint8_t width)
     return netlist_add(net, KIND_INPUT, width, 0, 0, 0, 0);
 }
 
+uint32_t netlist_output(struct netlist *net, uint32_t a, uint64_t keep)
+{
+    uint8_t width = net->records[a].width;
+    uint32_t number = netlist_add(net, KIND_OUTPUT, width, a, 0, 0, 0);
+
+    net->records[number].keep = keep;
+    return number;
+}
+
 void write_16(uint8_t *bytes, uint32_t number)
 {
     bytes[0] = (uint8_t)number;
     bytes[1] = (uint8_t)(number >> 8);
-}
-
-static void write_64(uint8_t *bytes, uint64_t number)
-{
-    int i;
-
-    for (i = 0; i < 8; i++)
-        bytes[i] = (uint8_t)(number >> 8 * i);
 }
 
 static void write_record(uint8_t *bytes, const struct record *record)

@@ -46,6 +46,9 @@ uint32_t netlist_add(struct netlist *net, uint8_t kind, uint8_t width,
                      uint32_t a, uint32_t b, uint32_t c, uint64_t k);
 uint32_t netlist_input(struct netlist *net, uint8_t width);
 
+/* Append an output of signal a, which keeps and asks for these bits only. */
+uint32_t netlist_output(struct netlist *net, uint32_t a, uint64_t keep);
+
 void netlist_write(const struct netlist *net, struct file *file);
 
 void write_16(uint8_t *bytes, uint32_t number);

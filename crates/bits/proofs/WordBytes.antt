@@ -58,6 +58,7 @@ module _ (words d part : List ℕ) (i v : ℕ) (w : Written words d i) (h : i < 
           ap (λ (l : List ℕ). take (8 * i) d ++ (l ++ postOf (8 * i) count d)) q
           ∙ ap (λ (l : List ℕ). take (8 * i) d ++ l) (append-assoc (bytes 8 v) (drop 8 lent) (postOf (8 * i) count d))
           ∙ sym (append-assoc (take (8 * i) d) (bytes 8 v) (drop 8 lent ++ postOf (8 * i) count d))
+
       long : length (take (8 * i) d ++ bytes 8 v) ≡ 8 * i + 8
       long = length-append (take (8 * i) d) (bytes 8 v) ∙ ap (λ (n : ℕ). n + 8) (length-take-le (8 * i) d (let s = w .size in omega arith))
 

@@ -1,8 +1,8 @@
 -- The tally, record by record: the sums so far, and that they are far from the end of a word.
 -- Assumes nothing.
-use mathlib.Core.Path.{_≡_, sym, ap₂, _∙_}
+use mathlib.Core.Path.{_≡_, refl, sym, ap₂, _∙_}
 use mathlib.Core.List.{List}
-use Prim.Native.Nat.{ℕ, _+_, _*_, _≤_, _<_}
+use Prim.Native.Nat.{ℕ, _+_, _*_, _^_, _≤_, _<_}
 use native.Mathlib.Nat.{le-trans}
 use native.Mathlib.Omega.{arith}
 use Rattle.bits.specs.Lists.{sumTo}
@@ -13,7 +13,7 @@ use Rattle.bits.proofs.Order.{low-within}
 use Rattle.netlist.specs.Check.{maxWidth}
 use Rattle.netlist.specs.Layout.{Design}
 use Rattle.netlist.specs.Sound.{Sound}
-use Rattle.care.specs.Least.{maskAt}
+use Rattle.care.specs.Least.{maskAt, widthSum, onesSum}
 use Rattle.care.specs.Sweep.{Fits}
 
 -- the sums over the records below i
@@ -31,6 +31,15 @@ module _ (d : Design) (s : Sound d) (masks : List ℕ) (f : Fits d masks) where
   pub ones-bound : (widths ones i : ℕ) → i ≤ d .count → Counted d masks widths ones i → ones ≤ maxWidth * i
   ones-bound widths ones i h c =
       let b = sum-bound (λ j. countOnes (maskAt masks j)) maxWidth i (λ j k. ones-low j (omega arith)) in let e = c .ones-sum in omega arith
+
+-- both numbers of a tally fit 31 bits
+pub tally-low : (d : Design) → Sound d → (masks : List ℕ) → Fits d masks → (widthSum d < 2 ^ 31) × (onesSum d masks < 2 ^ 31)
+tally-low d s masks f =
+    let c : Counted d masks (widthSum d) (onesSum d masks) (d .count) = record { width-sum = refl; ones-sum = refl } in
+    let n = s .few in
+    let w = widths-bound d s masks f (widthSum d) (onesSum d masks) (d .count) (omega arith) c in
+    let o = ones-bound d s masks f (widthSum d) (onesSum d masks) (d .count) (omega arith) c in
+    (omega arith, omega arith)
 
 pub counted-next : (d : Design) (masks : List ℕ) (widths ones i w o : ℕ) → Counted d masks widths ones i → w ≡ d .at i .width → o ≡ countOnes (maskAt masks i)
     → Counted d masks (widths + w) (ones + o) (i + 1)

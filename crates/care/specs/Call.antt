@@ -33,10 +33,11 @@ refuse r i list = record { answer = refused r i; list = list }
 abbrev pub fillMasks : Design → MasksCall
 fillMasks d = record { answer = Done (tallyOf d (masksOf d)); list = masksOf d }
 
+-- What a call comes to once the file is checked, where the lent list must have `size n` places.
 -- 11: "A mask, board or next list has not n words."
-unfoldable pub masksAfter : Checked → Design → List ℕ → MasksCall
-masksAfter (Accepted n) d list = cond (eqb (length list) n) (fillMasks d) (refuse BadList 0 list)
-masksAfter (Refused r i) d list = refuse r i list
+unfoldable pub callAfter : (ℕ → ℕ) → Checked → MasksCall → List ℕ → MasksCall
+callAfter size (Accepted n) filled list = cond (eqb (length list) (size n)) filled (refuse BadList 0 list)
+callAfter size (Refused r i) filled list = refuse r i list
 
 unfoldable pub masksCall : List ℕ → List ℕ → MasksCall
-masksCall file list = masksAfter (checkOf file) (designOf file) list
+masksCall file list = callAfter (λ n. n) (checkOf file) (fillMasks (designOf file)) list

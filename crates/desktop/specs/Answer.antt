@@ -1,15 +1,26 @@
 -- The 64-bit number that each call of the desktop gives.
 -- Assumes nothing.
 use Prim.Native.Nat.{ℕ, _+_, _*_, _^_}
+use Rattle.care.specs.declared.tally.Tally.{Tally}
+use Rattle.care.specs.declared.tally.Tallied.{Tallied}
+use Rattle.care.specs.declared.tally.Tallied.the-variants.{Done, Refused}
 use Rattle.netlist.specs.Check.{numberOf}
 use Rattle.netlist.specs.declared.check.Checked.{Checked}
-use Rattle.netlist.specs.declared.check.Checked.the-variants.{Accepted, Refused}
+use Rattle.netlist.specs.declared.check.Checked.the-variants.{Accepted, Refused as refused}
 
 -- "when refused, 2^63 + 2^32 × the refusal number + the record"
 abbrev pub refusedAnswer : ℕ → ℕ → ℕ
 refusedAnswer number i = 2 ^ 63 + 2 ^ 32 * number + i
 
+-- "and 2^32 × the first tally number + the second for masks and trim"
+abbrev pub tallyAnswer : Tally → ℕ
+tallyAnswer t = 2 ^ 32 * t .widths + t .ones
+
+unfoldable pub talliedAnswer : Tallied → ℕ
+talliedAnswer (Done t) = tallyAnswer t
+talliedAnswer (Refused r i) = refusedAnswer (numberOf r) i
+
 -- "otherwise n for check"
 unfoldable pub checkAnswer : Checked → ℕ
 checkAnswer (Accepted n) = n
-checkAnswer (Refused r i) = refusedAnswer (numberOf r) i
+checkAnswer (refused r i) = refusedAnswer (numberOf r) i

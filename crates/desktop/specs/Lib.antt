@@ -1,3 +1,4 @@
 -- What the functions of the desktop answer.
 -- Assumes nothing.
 pub mod Answer
+pub mod Buffers

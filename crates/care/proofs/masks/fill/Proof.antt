@@ -21,10 +21,10 @@ raise-requires c κs = let s = c .before .before .before .before .before .before
 tally-of-requires : tie.Need-tally-of-requires
 unfolding masksOf designOf
 tally-of-requires c κs = let s = c .before .before .before .before .before .before .before .before .before .before .before .pre .0 in (
-      s,
-      subst (λ (l : List ℕ). Fits (designOf (now (c .before .before .before .before .before .before .before .before .before .before .before .args .file))) l) (sym (c .before .before .before .raise .ensures ∙ ap (leastAbove (designOf (now (c .before .before .before .before .before .before .before .before .before .before .before .args .file)))) (c .before .before .before .before .before .before .before .seed .ensures)))
+  s,
+  subst (λ (l : List ℕ). Fits (designOf (now (c .before .before .before .before .before .before .before .before .before .before .before .args .file))) l) (sym (c .before .before .before .raise .ensures ∙ ap (leastAbove (designOf (now (c .before .before .before .before .before .before .before .before .before .before .before .args .file)))) (c .before .before .before .before .before .before .before .seed .ensures)))
       (masks-fit (designOf (now (c .before .before .before .before .before .before .before .before .before .before .before .args .file))) (s .sound)),
-    )
+)
 
 same-length : tie.Need-same-length
 same-length c = search needs

@@ -1,18 +1,15 @@
-use mathlib.Core.Path.{_≡_, sym, ap, subst, _∙_}
+use mathlib.Core.Path.{sym, ap, subst, _∙_}
 use Prim.Native.Nat.{ℕ}
 use borrow.Author.Needs.{needs}
 use denote.Ref.{now}
+use Rattle.netlist.specs.Layout.{designOf}
 use Rattle.netlist.proofs.Acceptance.{accepted}
 use Rattle.netlist.specs.Sound.{Acceptance}
+use Rattle.care.proofs.CallLaws.{both-of, call-refused, call-bad-list, call-filled}
+use Rattle.care.specs.Call.{masksCall, fillMasks}
 use Rattle.care.specs.declared.tally.Tallied.the-variants.{Done}
-use Rattle.care.proofs.CallLaws.{call-refused, call-bad-list, call-filled}
-use Rattle.care.specs.Call.{MasksCall}
 use Rattle.care.proofs.masks.masks.Statement.{statement}
 use Rattle.care.proofs.masks.masks.Tie as tie
-
--- the answer and the list of a call, from what the call is
-both : (c e : MasksCall) → c ≡ e → (e .answer ≡ c .answer) × (e .list ≡ c .list)
-both c e q = (ap (λ (m : MasksCall). m .answer) (sym q), ap (λ (m : MasksCall). m .list) (sym q))
 
 check-requires : tie.Need-check-requires
 check-requires c κs = tt
@@ -21,7 +18,8 @@ enum-known-n : tie.Need-enum-known-n
 enum-known-n c = search needs
 
 returns : tie.Need-returns
-returns c = both _ _ (call-bad-list (now (c .before .before .before .before .before .before .before .args .file)) (now (c .before .before .before .before .before .before .before .args .list)) (sym (c .before .before .before .before .check .ensures) ∙ c .before .before .n .given .1) (c .if1 .taken))
+unfolding masksCall
+returns c = both-of _ _ (call-bad-list (λ n. n) (now (c .before .before .before .before .before .before .before .args .file)) (fillMasks (designOf (now (c .before .before .before .before .before .before .before .args .file)))) (now (c .before .before .before .before .before .before .before .args .list)) (sym (c .before .before .before .before .check .ensures) ∙ c .before .before .n .given .1) (c .if1 .taken))
 
 fill-requires : tie.Need-fill-requires
 fill-requires c κs = let a = accepted (now (c .before .before .before .before .before .before .before .before .args .file)) _ (sym (c .before .before .before .before .before .check .ensures) ∙ c .before .before .before .n .given .1) in
@@ -34,11 +32,13 @@ same-length : tie.Need-same-length
 same-length c = search needs
 
 returns-2 : tie.Need-returns-2
-returns-2 c = let b = both _ _ (call-filled (now (c .before .before .before .before .before .before .before .before .before .before .before .args .file)) (now (c .before .before .before .before .before .before .before .before .before .before .before .args .list)) (sym (c .before .before .before .before .before .before .before .before .check .ensures) ∙ c .before .before .before .before .before .before .n .given .1) (c .before .before .before .before .if1 .left)) in
+unfolding masksCall
+returns-2 c = let b = both-of _ _ (call-filled (λ n. n) (now (c .before .before .before .before .before .before .before .before .before .before .before .args .file)) (fillMasks (designOf (now (c .before .before .before .before .before .before .before .before .before .before .before .args .file)))) (now (c .before .before .before .before .before .before .before .before .before .before .before .args .list)) (sym (c .before .before .before .before .before .before .before .before .check .ensures) ∙ c .before .before .before .before .before .before .n .given .1) (c .before .before .before .before .if1 .left)) in
     (ap Done (c .before .before .fill .ensures .0) ∙ b .0, c .before .before .fill .ensures .1 ∙ b .1)
 
 returns-3 : tie.Need-returns-3
-returns-3 c = both _ _ (call-refused (now (c .before .before .before .before .before .before .args .file)) (now (c .before .before .before .before .before .before .args .list)) (sym (c .before .before .before .check .ensures) ∙ c .before .r .given .1))
+unfolding masksCall
+returns-3 c = both-of _ _ (call-refused (λ n. n) (now (c .before .before .before .before .before .before .args .file)) (fillMasks (designOf (now (c .before .before .before .before .before .before .args .file)))) (now (c .before .before .before .before .before .before .args .list)) (sym (c .before .before .before .check .ensures) ∙ c .before .r .given .1))
 
 pub masks-spec : {M : Type 1} → statement M
 masks-spec =

@@ -1,0 +1,88 @@
+use mathlib.Core.Path.{sym, ap, subst, _∙_}
+use Prim.Native.Nat.{ℕ, _*_, _<_, _^_}
+use native.Mathlib.Omega.{arith}
+use lib.Dec.{lit<}
+use borrow.Author.Needs.{needs}
+use denote.Ref.{now}
+use Rattle.netlist.proofs.Acceptance.{accepted, refused-low}
+use Rattle.netlist.specs.Layout.{designOf}
+use Rattle.care.proofs.TallyLaws.{tally-low}
+use Rattle.care.proofs.LeastMasks.{masks-fit}
+use Rattle.care.proofs.CallLaws.{call-refused, call-bad-list, call-filled, both-of}
+use Rattle.care.specs.declared.tally.Tally.{Tally}
+use Rattle.care.specs.Least.{masksOf}
+use Rattle.desktop.specs.Buffers.{masksBuffer, fillBuffer}
+use Rattle.desktop.specs.Answer.{refusedAnswer, tallyAnswer, talliedAnswer}
+use Rattle.desktop.proofs.pcn_masks.Statement.{statement}
+use Rattle.desktop.proofs.pcn_masks.Tie as tie
+
+check-requires : tie.Need-check-requires
+check-requires c κs = tt
+
+enum-known-n : tie.Need-enum-known-n
+enum-known-n c = search needs
+
+mul-if1 : tie.Need-mul-if1
+unfolding designOf
+mul-if1 c = let a = accepted (now (c .before .before .before .before .before .before .args .file)) _ (sym (c .before .before .before .check .ensures) ∙ c .before .n .given .1) in let f = a .sound .few in let e = a .count in omega arith
+
+number-requires : tie.Need-number-requires
+number-requires c κs = tt
+
+refused-requires : tie.Need-refused-requires
+refused-requires c κs = (c .number .ensures .1, lit< tt)
+
+returns : tie.Need-returns
+unfolding talliedAnswer masksBuffer
+returns c = let b = both-of _ _ (call-bad-list (λ n. 8 * n) (now (c .before .before .before .before .before .before .before .before .before .args .file)) (fillBuffer (designOf (now (c .before .before .before .before .before .before .before .before .before .args .file)))) (now (c .before .before .before .before .before .before .before .before .before .args .masks)) (sym (c .before .before .before .before .before .before .check .ensures) ∙ c .before .before .before .before .n .given .1) (c .before .before .if1 .taken)) in
+    (c .refused .ensures ∙ ap (λ (n : ℕ). refusedAnswer n 0) (c .before .number .ensures .0) ∙ ap talliedAnswer (b .0), b .1)
+
+fill-buffer-requires : tie.Need-fill-buffer-requires
+fill-buffer-requires c κs = (accepted (now (c .before .before .before .before .before .before .before .before .args .file)) _ (sym (c .before .before .before .before .before .check .ensures) ∙ c .before .before .before .n .given .1), c .before .if1 .left)
+
+tallied-requires : tie.Need-tallied-requires
+tallied-requires c κs = let a = accepted (now (c .before .before .before .before .before .before .before .before .before .before .before .args .file)) _ (sym (c .before .before .before .before .before .before .before .before .check .ensures) ∙ c .before .before .before .before .before .before .n .given .1) in
+    let d = designOf (now (c .before .before .before .before .before .before .before .before .before .before .before .args .file)) in
+    let l = tally-low d (a .sound) (masksOf d) (masks-fit d (a .sound)) in
+    subst (λ (t : Tally). (t .widths < 2 ^ 31) × (t .ones < 2 ^ 32)) (sym (c .before .before .fill-buffer .ensures .0)) (l .0, let o = l .1 in omega arith)
+
+enum-known-r : tie.Need-enum-known-r
+enum-known-r c = search needs
+
+number-requires-2 : tie.Need-number-requires-2
+number-requires-2 c κs = tt
+
+refused-requires-2 : tie.Need-refused-requires-2
+refused-requires-2 c κs = (c .number2 .ensures .1, let h = refused-low (now (c .before .before .before .before .before .before .before .args .file)) _ _ (sym (c .before .before .before .before .check .ensures) ∙ c .before .before .r .given .1) in omega arith)
+
+same-length : tie.Need-same-length
+same-length c = search needs
+
+returns-2 : tie.Need-returns-2
+unfolding talliedAnswer masksBuffer
+returns-2 c = let b = both-of _ _ (call-filled (λ n. 8 * n) (now (c .before .before .before .before .before .before .before .before .before .before .before .before .args .file)) (fillBuffer (designOf (now (c .before .before .before .before .before .before .before .before .before .before .before .before .args .file)))) (now (c .before .before .before .before .before .before .before .before .before .before .before .before .args .masks)) (sym (c .before .before .before .before .before .before .before .before .before .check .ensures) ∙ c .before .before .before .before .before .before .before .n .given .1) (c .before .before .before .before .before .if1 .left)) in
+    (c .tallied .ensures ∙ ap tallyAnswer (c .before .before .before .fill-buffer .ensures .0) ∙ ap talliedAnswer (b .0), c .before .before .before .fill-buffer .ensures .1 ∙ b .1)
+
+returns-3 : tie.Need-returns-3
+unfolding talliedAnswer masksBuffer
+returns-3 c = let b = both-of _ _ (call-refused (λ n. 8 * n) (now (c .before .before .before .before .before .before .before .before .args .file)) (fillBuffer (designOf (now (c .before .before .before .before .before .before .before .before .args .file)))) (now (c .before .before .before .before .before .before .before .before .args .masks)) (sym (c .before .before .before .before .before .check .ensures) ∙ c .before .before .before .r .given .1)) in
+    (c .refused2 .ensures ∙ ap (λ (n : ℕ). refusedAnswer n (c .before .before .before .r .given .0 .1 .0)) (c .before .number2 .ensures .0) ∙ ap talliedAnswer (b .0), b .1)
+
+pub pcn-masks-spec : {M : Type 1} → statement M
+pcn-masks-spec =
+    tie.close
+    (tie.spec
+    check-requires
+    enum-known-n
+    mul-if1
+    number-requires
+    refused-requires
+    returns
+    fill-buffer-requires
+    tallied-requires
+    enum-known-r
+    number-requires-2
+    refused-requires-2
+    same-length
+    returns-2
+    returns-3)

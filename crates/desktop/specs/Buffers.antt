@@ -1,0 +1,18 @@
+-- What a call of the desktop does with the byte buffers lent to it, refused calls included.
+-- Assumes nothing.
+use mathlib.Core.List.{List}
+use Prim.Native.Nat.{ℕ, _*_}
+use Rattle.bits.specs.Bytes.{wordBytes}
+use Rattle.care.specs.Call.{MasksCall, tallyOf, callAfter}
+use Rattle.care.specs.Least.{masksOf}
+use Rattle.care.specs.declared.tally.Tallied.the-variants.{Done}
+use Rattle.netlist.specs.Check.{checkOf}
+use Rattle.netlist.specs.Layout.{Design, designOf}
+
+-- An accepted call of masks: the tally, and the masks as bytes.
+abbrev pub fillBuffer : Design → MasksCall
+fillBuffer d = record { answer = Done (tallyOf d (masksOf d)); list = wordBytes (masksOf d) }
+
+-- "there a mask list is 8 × n bytes, and another length is 11"
+unfoldable pub masksBuffer : List ℕ → List ℕ → MasksCall
+masksBuffer file buffer = callAfter (λ n. 8 * n) (checkOf file) (fillBuffer (designOf file)) buffer

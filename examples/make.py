@@ -1,0 +1,289 @@
+"""Writes the sample netlists of this folder: make.py [FOLDER].
+Assumes nothing but Python. The text beside each file is what masks prints."""
+
+import pathlib
+import struct
+import sys
+
+(INPUT, CONSTANT, REGISTER, OUTPUT, EXTRACT, CONCAT, AND, OR, XOR, MUX, ADD,
+ SUB, MUL, EQUAL, BELOW) = range(15)
+
+
+class Design:
+    """A list of records. Every method adds one and gives its number, by
+    which later records read its signal."""
+
+    def __init__(self):
+        self.records = []
+
+    def record(self, kind, width, a=0, b=0, c=0, k=0, keep=None):
+        full = (1 << width) - 1
+        self.records.append([kind, width, a, b, c, k,
+                             full if keep is None else keep])
+        return len(self.records) - 1
+
+    def width(self, signal):
+        return self.records[signal][1]
+
+    def input(self, width):
+        return self.record(INPUT, width)
+
+    def constant(self, width, value):
+        return self.record(CONSTANT, width, k=value)
+
+    def register(self, width, reset=0):
+        """What it loads may come later: see load. Until then, itself."""
+        return self.record(REGISTER, width, a=len(self.records), k=reset)
+
+    def load(self, register, signal):
+        self.records[register][2] = signal
+
+    def output(self, a, keep=None):
+        return self.record(OUTPUT, self.width(a), a, keep=keep)
+
+    def extract(self, a, low, width):
+        return self.record(EXTRACT, width, a, k=low)
+
+    def concat(self, high, low):
+        return self.record(CONCAT, self.width(high) + self.width(low), high,
+                           low)
+
+    def mux(self, selector, if_one, if_zero):
+        return self.record(MUX, self.width(if_one), selector, if_one, if_zero)
+
+    def gate(self, kind, a, b, keep=None):
+        """and, or, xor, add, sub or mul."""
+        return self.record(kind, self.width(a), a, b, keep=keep)
+
+    def equal(self, a, b):
+        return self.record(EQUAL, 1, a, b)
+
+    def below(self, a, b):
+        return self.record(BELOW, 1, a, b)
+
+    def file(self):
+        header = struct.pack("<3sHBH", b"PCN", 1, 0, len(self.records))
+        return header + b"".join(struct.pack("<BBHHHQQ", *record)
+                                 for record in self.records)
+
+
+def ramp(low, width):
+    """a * b + c, of which only some bits go out."""
+    d = Design()
+    a = d.input(32)
+    b = d.input(32)
+    c = d.input(32)
+    total = d.gate(ADD, d.gate(MUL, a, b), c)
+    d.output(d.extract(total, low, width))
+    return d
+
+
+def counter():
+    """Counts, and nobody looks."""
+    d = Design()
+    count = d.register(8)
+    one = d.constant(8, 1)
+    d.load(count, d.gate(ADD, count, one))
+    return d
+
+
+def shift_chain():
+    """Four bits; one goes in at the top, the lowest goes out."""
+    d = Design()
+    new = d.input(1)
+    state = d.register(4)
+    rest = d.extract(state, 1, 3)
+    d.load(state, d.concat(new, rest))
+    d.output(d.extract(state, 0, 1))
+    return d
+
+
+def unread_mux():
+    """The selector counts as felt, though nobody reads the mux."""
+    d = Design()
+    selector = d.input(1)
+    one = d.input(8)
+    two = d.input(8)
+    d.mux(selector, one, two)
+    return d
+
+
+def register_ring():
+    """Four registers of 12 bits in a ring that moves its word down by 3
+    places in each turn. Each reads the next one, so the demand goes against
+    the order of the records; only every third bit is ever asked for."""
+    d = Design()
+    ring = [d.register(12, reset=1) for _ in range(4)]
+    for this, following in zip(ring, ring[1:]):
+        d.load(this, following)
+    low = d.extract(ring[0], 0, 3)
+    high = d.extract(ring[0], 3, 9)
+    d.load(ring[3], d.concat(low, high))
+    d.output(d.extract(ring[1], 0, 1))
+    return d
+
+
+def extended(d, signal, width):
+    """The signal, two's complement, in more bits."""
+    more = width - d.width(signal)
+    sign = d.extract(signal, d.width(signal) - 1, 1)
+    ones = d.constant(more, (1 << more) - 1)
+    zeros = d.constant(more, 0)
+    return d.concat(d.mux(sign, ones, zeros), signal)
+
+
+def magnitude(d, signal):
+    """The amount of a signal in two's complement, without its sign."""
+    sign = d.extract(signal, d.width(signal) - 1, 1)
+    zero = d.constant(d.width(signal), 0)
+    return d.mux(sign, d.gate(SUB, zero, signal), signal)
+
+
+def smoothed(d, angle):
+    """A low pass: an eighth of the difference is added in each cycle. The
+    state has 8 bits more than the angle."""
+    state = d.register(24)
+    wide = d.concat(angle, d.constant(8, 0))
+    difference = d.gate(SUB, wide, state)
+    eighth = extended(d, d.extract(difference, 3, 21), 24)
+    d.load(state, d.gate(ADD, state, eighth))
+    return d.extract(state, 8, 16)
+
+
+def blade(d, shared):
+    """One blade: its encoder in, its drive out. Gives its two alarms."""
+    encoder = d.input(24)
+    angle = smoothed(d, d.extract(encoder, 8, 16))
+    faults = d.extract(encoder, 0, 8)
+
+    error = d.gate(SUB, shared["setpoint"], angle)
+    wide_error = extended(d, error, 32)
+    product = d.gate(MUL, wide_error, shared["gain"])
+    proportional = d.extract(product, 8, 16)
+
+    # The integrator stands still while the drive is at its limit.
+    integral = d.register(32)
+    total = d.gate(ADD, integral, wide_error)
+    command = d.gate(ADD, proportional, d.extract(integral, 12, 16))
+    too_fast = d.below(shared["limit"], magnitude(d, command))
+    d.load(integral, d.mux(too_fast, integral, total))
+
+    # At the limit the drive gets the limit, with the command's sign.
+    least = d.gate(SUB, d.constant(16, 0), shared["limit"])
+    backwards = d.extract(command, 15, 1)
+    edge = d.mux(backwards, least, shared["limit"])
+    limited = d.mux(too_fast, edge, command)
+    speed = d.mux(shared["feather"], shared["feather speed"], limited)
+
+    # The drive takes 12 bits.
+    d.output(d.extract(speed, 4, 12))
+
+    # Of the encoder's eight fault bits, two are of interest here.
+    wanted = d.gate(AND, faults, d.constant(8, 0x81), keep=0x81)
+    fault = d.below(d.constant(8, 0), wanted)
+    return too_fast, fault
+
+
+def watchdog(d, heartbeat):
+    """Counts the cycles since the heartbeat last changed; 1 from 3,000 on."""
+    last = d.register(1)
+    d.load(last, heartbeat)
+    changed = d.gate(XOR, heartbeat, last)
+    count = d.register(12)
+    late = d.below(d.constant(12, 2999), count)
+    following = d.gate(ADD, count, d.constant(12, 1))
+    held = d.mux(late, count, following)
+    d.load(count, d.mux(changed, d.constant(12, 0), held))
+    return late
+
+
+def hours(d):
+    """A cycle counter; the display shows bits 20 to 27 of it."""
+    count = d.register(32)
+    d.load(count, d.gate(ADD, count, d.constant(32, 1)))
+    return d.extract(count, 20, 8)
+
+
+def warm(d, temperature):
+    """Compares the upper half of the reading alone."""
+    return d.below(d.constant(6, 41), d.extract(temperature, 6, 6))
+
+
+def held_alarm(d, alarm, clear):
+    """Stays 1 until it is cleared."""
+    state = d.register(1)
+    raised = d.gate(OR, state, alarm)
+    d.load(state, d.mux(clear, d.constant(1, 0), raised))
+    return state
+
+
+def spare_parts(d, mode, setpoint):
+    """Left over from commissioning: a probe that nobody reads, and a counter
+    of mode changes that was never wired up."""
+    probe = d.equal(mode, d.constant(3, 7))
+    d.mux(probe, setpoint, d.constant(16, 0))
+    last = d.register(3)
+    d.load(last, mode)
+    changed = d.equal(last, mode)
+    count = d.register(16)
+    following = d.gate(ADD, count, d.constant(16, 1))
+    d.load(count, d.mux(changed, count, following))
+
+
+def status(d, bits, shown_hours):
+    """A word of 16 bits. The display does not know the two lowest yet, so
+    they are not kept."""
+    word = shown_hours
+    for bit in bits:
+        word = d.concat(word, bit)
+    d.output(word, keep=0xfffc)
+
+
+def pitch_card():
+    """Three blades, a watchdog, a temperature, and a status word."""
+    d = Design()
+    setpoint = d.input(16)
+    mode = d.input(3)
+    heartbeat = d.input(1)
+    temperature = d.input(12)
+
+    late = watchdog(d, heartbeat)
+    hot = warm(d, temperature)
+    clear = d.equal(mode, d.constant(3, 5))
+    stop = d.equal(mode, d.constant(3, 1))
+    alarm = held_alarm(d, d.gate(OR, late, hot), clear)
+
+    shared = {
+        "setpoint": setpoint,
+        "gain": d.constant(32, 0x0180),
+        "limit": d.constant(16, 0x2400),
+        "feather": d.gate(OR, alarm, stop),
+        "feather speed": d.constant(16, 0x1f00),
+    }
+    alarms = [blade(d, shared) for _ in range(3)]
+    bits = [fast for fast, _ in alarms] + [fault for _, fault in alarms]
+    status(d, bits + [late, hot], hours(d))
+    spare_parts(d, mode, setpoint)
+    return d
+
+
+DESIGNS = {
+    "ramp": ramp(0, 16),
+    "ramp-high": ramp(8, 8),
+    "counter": counter(),
+    "shift-chain": shift_chain(),
+    "unread-mux": unread_mux(),
+    "register-ring": register_ring(),
+    "pitch-card": pitch_card(),
+}
+
+
+def main():
+    folder = pathlib.Path(sys.argv[1] if len(sys.argv) > 1
+                          else pathlib.Path(__file__).parent)
+    for name, design in DESIGNS.items():
+        (folder / f"{name}.pcn").write_bytes(design.file())
+
+
+if __name__ == "__main__":
+    main()

@@ -1,0 +1,21 @@
+/* Times two operations that take turns, and keeps the best round of each.
+   Assumes a quiet machine; nothing is demanded of the times. */
+
+#ifndef TIMING_H
+#define TIMING_H
+
+#include "../outside/lent.h"
+#include "workloads.h"
+
+enum { ROUNDS = 15 };
+
+/* Microseconds for one call of each, on the average over all files. */
+struct times {
+    double library;
+    double plain;
+};
+
+struct times time_both(operation *library, operation *plain,
+                       const struct workload *work);
+
+#endif

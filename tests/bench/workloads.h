@@ -1,0 +1,27 @@
+/* The designs that the benchmark runs on, several files to a workload.
+   Assumes one workload at a time, since all share one mask list. */
+
+#ifndef WORKLOADS_H
+#define WORKLOADS_H
+
+#include "../outside/lent.h"
+#include "../outside/netlist.h"
+
+enum { MOST_FILES = 8 };
+
+/* What is lent for each file: the file itself, and a list for its masks. */
+struct workload {
+    uint32_t count;
+    uint32_t files;
+    struct lent lent[MOST_FILES];
+};
+
+/* Each fills the workload with designs of this many records. */
+typedef void workload_maker(struct workload *work, uint32_t count);
+
+workload_maker all_kinds;     /* one design with all kinds alike */
+workload_maker feedback;      /* random designs, many registers */
+workload_maker combinational; /* random designs without registers */
+workload_maker chain;         /* registers that each read the next one */
+
+#endif

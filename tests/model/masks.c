@@ -1,0 +1,160 @@
+/* The plain model's care masks, worked out with a list of waiting records.
+   Assumes a mask list of its own memory, apart from the file. */
+
+#include "model.h"
+#include "record.h"
+
+/* The masks so far, and the records whose mask has grown since they last
+   asked their operands. A record waits at most once at a time. */
+struct work {
+    uint64_t mask[COUNT_LIMIT];
+    uint8_t waits[COUNT_LIMIT];
+    uint32_t list[COUNT_LIMIT];
+    uint32_t waiting;
+};
+
+static void let_wait(struct work *work, uint32_t number)
+{
+    if (work->waits[number])
+        return;
+    work->waits[number] = 1;
+    work->list[work->waiting++] = number;
+}
+
+/* Some reader asks for these bits of the signal. */
+static void ask(struct work *work, uint32_t number, uint64_t bits)
+{
+    uint64_t grown = work->mask[number] | bits;
+
+    if (grown == work->mask[number])
+        return;
+    work->mask[number] = grown;
+    let_wait(work, number);
+}
+
+static void ask_both(struct work *work, const uint32_t *operand,
+                     uint64_t bits)
+{
+    ask(work, operand[0], bits);
+    ask(work, operand[1], bits);
+}
+
+/* The low bits go to b and the rest to a, which has a bit at least: there are
+   fewer than 64 low ones. */
+static void ask_parts(struct work *work, const uint32_t *operand,
+                      unsigned low, uint64_t bits)
+{
+    ask(work, operand[1], bits & width_mask(low));
+    ask(work, operand[0], bits >> low);
+}
+
+/* Every bit from 0 to the highest one: each bit is spread downwards. */
+static uint64_t filled_below(uint64_t bits)
+{
+    unsigned step;
+
+    for (step = 1; step < 64; step *= 2)
+        bits |= bits >> step;
+    return bits;
+}
+
+/* The care rules: what a record asks of its operands, given its D. */
+static void ask_operands(struct work *work, const uint8_t *file,
+                         const struct record *record, uint64_t d)
+{
+    const uint32_t *operand = record->operand;
+
+    switch (record->kind) {
+    case KIND_INPUT:
+    case KIND_CONSTANT:
+        break;
+    case KIND_REGISTER:
+    case KIND_OUTPUT:
+        ask(work, operand[0], d);
+        break;
+    case KIND_EXTRACT:
+        ask(work, operand[0], d << record->k);
+        break;
+    case KIND_CONCAT:
+        ask_parts(work, operand, width_at(file, operand[1]), d);
+        break;
+    case KIND_AND:
+    case KIND_OR:
+    case KIND_XOR:
+        ask_both(work, operand, d);
+        break;
+    case KIND_MUX:
+        ask(work, operand[0], 1);
+        ask(work, operand[1], d);
+        ask(work, operand[2], d);
+        break;
+    case KIND_ADD:
+    case KIND_SUB:
+    case KIND_MUL:
+        ask_both(work, operand, filled_below(d));
+        break;
+    default:
+        if (d != 0)
+            ask_both(work, operand, width_mask(width_at(file, operand[0])));
+        break;
+    }
+}
+
+/* Every record waits at first: an output begins with all its bits, and a mux
+   asks for its selector though nobody reads it. */
+static void begin(struct work *work, const uint8_t *file, uint32_t count)
+{
+    uint32_t i;
+
+    work->waiting = 0;
+    for (i = 0; i < count; i++) {
+        work->mask[i] = 0;
+        work->waits[i] = 0;
+        if (kind_at(file, i) == KIND_OUTPUT)
+            work->mask[i] = width_mask(width_at(file, i));
+        let_wait(work, i);
+    }
+}
+
+static void work_off(struct work *work, const uint8_t *file)
+{
+    while (work->waiting > 0) {
+        uint32_t number = work->list[--work->waiting];
+        struct record record = read_record(file, number);
+
+        work->waits[number] = 0;
+        ask_operands(work, file, &record, work->mask[number] & record.keep);
+    }
+}
+
+static uint32_t ones(uint64_t bits)
+{
+    uint32_t count = 0;
+
+    for (; bits != 0; bits &= bits - 1)
+        count++;
+    return count;
+}
+
+uint64_t model_masks(const uint8_t *file, size_t length, uint8_t *masks,
+                     size_t masks_length)
+{
+    uint64_t answer = model_check(file, length);
+    uint64_t widths = 0, cared = 0;
+    struct work work;
+    uint32_t count, i;
+
+    if (answer >> 63)
+        return answer;
+    count = (uint32_t)answer;
+    if (masks_length != 8 * (size_t)count)
+        return model_refused(11, 0);
+    begin(&work, file, count);
+    work_off(&work, file);
+    for (i = 0; i < count; i++) {
+        write_64(masks + 8 * (size_t)i, work.mask[i]);
+        widths += width_at(file, i);
+        cared += ones(work.mask[i]);
+    }
+    return (widths << 32) + cared;
+}

@@ -1,0 +1,153 @@
+/* Refused calls of pcn_masks: wrong lists, broken files, and both at once.
+   Assumes that each trial looks whether the list is as it was. */
+
+#include "../../include/pcn.h"
+#include "designs.h"
+#include "families.h"
+#include "fixture.h"
+#include "masks_parts.h"
+#include "masks_trial.h"
+#include "report.h"
+#include "trial.h"
+
+static struct netlist net;
+static struct file file;
+
+/* Every length near the right one, and the lengths that a count of records,
+   of words or of file bytes would give. */
+static void wrong_lengths(uint32_t count)
+{
+    size_t right = 8 * (size_t)count;
+    size_t others[5];
+    size_t length, i;
+
+    others[0] = 0;
+    others[1] = count;
+    others[2] = 2 * right;
+    others[3] = 3 * right;
+    others[4] = 3 * right + 8;
+    for (i = 0; i < 5; i++)
+        if (others[i] != right)
+            expect_list_refused(&net, others[i], 11, 0);
+    for (length = right < 20 ? 0 : right - 20; length <= right + 20; length++)
+        if (length != right)
+            expect_list_refused(&net, length, 11, 0);
+}
+
+static void every_length(void)
+{
+    static const uint32_t counts[] = { 0, 1, 2, 3, 31, 32, 100, 2047, 2048 };
+    static uint64_t masks[NETLIST_ROOM];
+    size_t i;
+
+    test_begin("11: lists of every wrong length, and the right one passes");
+    for (i = 0; i < sizeof counts / sizeof *counts; i++) {
+        struct rng rng = rng_for(2, i);
+
+        design_make(&rng, &net, counts[i]);
+        wrong_lengths(counts[i]);
+        try_netlist(&net, masks);
+    }
+    test_end();
+}
+
+/* Breaks one rule of a valid file of two adds. */
+static void make_broken(unsigned refusal)
+{
+    adds_make(&net);
+    if (refusal >= 6)
+        adds_break(&net, ADDS_FIRST, refusal);
+    netlist_write(&net, &file);
+    switch (refusal) {
+    case 1:
+        file.length = 7;
+        break;
+    case 2:
+        file.bytes[5] = 1;
+        break;
+    case 3:
+        file.bytes[3] = 2;
+        break;
+    case 4:
+        write_16(file.bytes + 6, 2049);
+        break;
+    case 5:
+        file.length--;
+        break;
+    default:
+        break;
+    }
+}
+
+static void order(void)
+{
+    static const size_t lists[] = { 0, 5, 39, 40, 41, 48, 8 * 2049 };
+    unsigned refusal;
+    size_t i;
+
+    test_begin("1 to 10: go before 11, and the list stays as it was");
+    for (refusal = 1; refusal <= 10; refusal++) {
+        uint32_t record = refusal >= 6 ? ADDS_FIRST : 0;
+
+        make_broken(refusal);
+        for (i = 0; i < sizeof lists / sizeof *lists; i++)
+            demand_answer(try_masks(file.bytes, file.length, lists[i]),
+                          refused_answer(refusal, record));
+    }
+    test_end();
+}
+
+/* A list for the count in the header or a count near it, or of any length.
+   A file without a header gets a list of a few words. */
+static size_t some_list(struct rng *rng)
+{
+    size_t count = file.length < 8 ? 3 : read_16(file.bytes + 6);
+
+    switch (rng_below(rng, 8)) {
+    case 0:
+        return 0;
+    case 1:
+        return 8 * count + rng_between(rng, 1, 24);
+    case 2:
+        return 8 * (file.length / 24);
+    case 3:
+        return rng_below(rng, 8 * COUNT_LIMIT + 1);
+    default:
+        return 8 * count;
+    }
+}
+
+/* Damaged files, as pcn_check gets them: a third of each family. */
+static void try_family(const struct family *family, uint64_t seed,
+                       unsigned long first)
+{
+    unsigned long i;
+
+    test_begin(family->name);
+    for (i = 0; i < family->files; i += 3) {
+        struct rng rng = rng_for(seed, first + i);
+        uint64_t check, answer;
+
+        family_make(family, &rng, &file);
+        answer = try_masks(file.bytes, file.length, some_list(&rng));
+        check = pcn_check(file.bytes, file.length);
+        if (PCN_REFUSED(check))
+            demand_answer(answer, check);
+        else if (PCN_REFUSED(answer))
+            demand_answer(answer, refused_answer(11, 0));
+    }
+    test_end();
+}
+
+void masks_refused(uint64_t seed)
+{
+    unsigned long first = 1000000;
+    int i;
+
+    every_length();
+    order();
+    for (i = 0; i < FAMILIES; i++) {
+        try_family(&families[i], seed, first);
+        first += families[i].files;
+    }
+}
