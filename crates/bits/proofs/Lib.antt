@@ -4,7 +4,6 @@ pub mod LittleEndian
 pub mod WordBytes
 pub mod Counts
 pub mod Modulo
-pub mod Table
 pub mod Digits
 pub mod Order
 pub mod Shifts

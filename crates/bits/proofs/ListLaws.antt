@@ -4,31 +4,35 @@ use mathlib.Core.Path.{_≡_, refl, sym, ap, _∙_}
 use mathlib.Core.Logic.{_⊎_, inl, inr}
 use mathlib.Core.List.{List, [], _∷_, _++_}
 use Prim.Native.Nat.{ℕ, zero, suc, _+_, _*_, _≤_, _<_}
-use native.Mathlib.Nat.{eq-or-lt-of-le, not-suc-le-zero, mul-suc}
+use native.Mathlib.Nat.{add-zero, zero-add, add-suc, suc-add, le-of-suc-le-suc, eq-or-lt-of-le, not-suc-le-zero, mul-suc}
 use native.Mathlib.Numerals.{add-one}
 use native.Mathlib.Omega.{arith}
-use lib.ListN.{length, getD, set, List·getD-append}
-use lib.Seq.{ext-getD, getD-append-seam, getD-set-same, getD-set-other}
-use Rattle.bits.specs.Lists.{wordsOf, sumTo}
+use lib.ListN.{length, getD, set}
+use lib.Seq.{ext-getD, getD-set-same, getD-set-other}
+use Rattle.bits.specs.Lists.{wordsFrom, wordsOf, sumTo}
 
 pub length-append : (l m : List ℕ) → length (l ++ m) ≡ length l + length m
 length-append [] m = omega arith
 length-append (x ∷ l) m = let e = length-append l m in omega arith
 
+length-from : (f : ℕ → ℕ) (i n : ℕ) → length (wordsFrom f i n) ≡ n
+unfolding wordsFrom
+length-from f i zero = refl
+length-from f i (suc n) = ap suc (length-from f (suc i) n)
+
+from-at : (f : ℕ → ℕ) (i n k : ℕ) → k < n → getD (wordsFrom f i n) k 0 ≡ f (i + k)
+unfolding wordsFrom
+from-at f i zero k h = absurd (not-suc-le-zero h)
+from-at f i (suc n) zero h = ap f (sym (add-zero i))
+from-at f i (suc n) (suc k) h = from-at f (suc i) n k (le-of-suc-le-suc h) ∙ ap f (suc-add i k ∙ sym (add-suc i k))
+
 pub length-words : (f : ℕ → ℕ) (n : ℕ) → length (wordsOf f n) ≡ n
 unfolding wordsOf
-length-words f zero = refl
-length-words f (suc n) = let e = length-words f n in let a = length-append (wordsOf f n) (f n ∷ []) in omega arith
+length-words f n = length-from f 0 n
 
 pub word-at : (f : ℕ → ℕ) (n i : ℕ) → i < n → getD (wordsOf f n) i 0 ≡ f i
 unfolding wordsOf
-word-at f zero i h = absurd (not-suc-le-zero h)
-word-at f (suc n) i h = go (word-at f n i) (eq-or-lt-of-le (let g : i ≤ n = omega arith in g))
-  where
-    go : (i < n → getD (wordsOf f n) i 0 ≡ f i) → (i ≡ n) ⊎ (i < n) → getD (wordsOf f n ++ (f n ∷ [])) i 0 ≡ f i
-    go below (inl e) =
-        ap (λ (j : ℕ). getD (wordsOf f n ++ (f n ∷ [])) j 0) (e ∙ sym (length-words f n)) ∙ getD-append-seam (wordsOf f n) (f n) [] 0 ∙ ap f (sym e)
-    go below (inr g) = List·getD-append (wordsOf f n) (f n ∷ []) 0 i (let e = length-words f n in omega arith) ∙ below g
+word-at f n i h = from-at f 0 n i h ∙ ap f (zero-add i)
 
 -- a list of n words whose word i is f i is the one that the rule gives
 pub words-only : (f : ℕ → ℕ) (n : ℕ) (l : List ℕ) → length l ≡ n → ((i : ℕ) → i < n → getD l i 0 ≡ f i) → l ≡ wordsOf f n

@@ -1,12 +1,15 @@
 -- Lists of words that a rule gives, and sums over them.
 -- Assumes nothing.
-use mathlib.Core.List.{List, [], _∷_, _++_}
+use mathlib.Core.List.{List, [], _∷_}
 use Prim.Native.Nat.{ℕ, zero, suc, _+_}
 
--- The list of n words whose word i is f i.
+-- The list of n words whose word i is f i: f at the n places from i on, and from 0 on.
+unfoldable pub wordsFrom : (ℕ → ℕ) → ℕ → ℕ → List ℕ
+wordsFrom f i zero = []
+wordsFrom f i (suc n) = f i ∷ wordsFrom f (suc i) n
+
 unfoldable pub wordsOf : (ℕ → ℕ) → ℕ → List ℕ
-wordsOf f zero = []
-wordsOf f (suc n) = wordsOf f n ++ (f n ∷ [])
+wordsOf f n = wordsFrom f 0 n
 
 -- The sum of f i over all i below n.
 unfoldable pub sumTo : (ℕ → ℕ) → ℕ → ℕ

@@ -1,8 +1,8 @@
 // Masks: the low bits of a word, a word cut to a width, its ones and its length.
-// A caller of low_mask keeps n at 64 or below; the others ask nothing.
+// A caller of low_mask or low_entry keeps n at 64 or below; the others ask nothing.
 ghost use mathlib.Core.Path.{_≡_};
 ghost use Prim.Native.Nat.{_%_, _^_, _≤_};
-ghost use Rattle.bits.specs.Words.{lowMask, cut, countOnes, bitLength};
+ghost use Rattle.bits.specs.Words.{lowMask, lowMasks, cut, countOnes, bitLength};
 
 // The 65 low masks: entry n has the n lowest bits.
 const LOW: [u64; 65] = [
@@ -73,12 +73,31 @@ const LOW: [u64; 65] = [
     0xffffffffffffffff,
 ];
 
+// The table of the low masks, for a caller that looks up many.
+pub fn low_table() -> [u64; 65]
+    ensures { λ r. ⌜ r ≡ lowMasks ⌝ }
+{
+    LOW
+}
+
+// The mask of the n lowest bits, from the table.
+pub fn low_entry(table: &[u64], n: u64) -> u64
+    requires { ⌜ (now table ≡ lowMasks) × (n ≤ 64) ⌝ }
+    ensures { λ r. ⌜ r ≡ lowMask n ⌝ }
+{
+    table[n as usize]
+}
+
 // The mask of the n lowest bits.
 pub fn low_mask(n: u64) -> u64
     requires { ⌜ n ≤ 64 ⌝ }
     ensures { λ r. ⌜ r ≡ lowMask n ⌝ }
 {
-    LOW[n as usize]
+    if n < 64 {
+        (1 << n) - 1
+    } else {
+        0xffffffffffffffff
+    }
 }
 
 // The w lowest bits of x; all of x from width 64 on.

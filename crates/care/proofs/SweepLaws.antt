@@ -1,23 +1,25 @@
 -- Sweeps: how far the next one has to go up, and what stays true while one goes down through the records.
 -- Assumes nothing.
 use mathlib.Core.Path.{_≡_, refl, sym, ap, subst, _∙_}
-use mathlib.Core.Bool.{Bool, true, false, cond, not, _&&_, false≢true}
+use mathlib.Core.Bool.{and-false, Bool, true, false, cond, not, _&&_, false≢true}
 use mathlib.Core.Logic.{_≢_, _⊎_, inl, inr}
 use mathlib.Core.List.{List, [], _∷_}
 use Prim.Native.Nat.{ℕ, suc, _+_, _-_, _≤_, _<_, min}
 use native.Mathlib.Nat.{eq-or-lt-of-le}
 use native.Mathlib.Omega.{arith}
-use lib.Bits.{bitOr}
+use lib.Bits.{bitOr, or-zero-r}
 use lib.Dec.{eqb, leb}
-use lib.ListN.{length}
-use borrow.Author.Tests.{eqb-false, leb-true, not-true, le-leb, ne-eqb}
+use lib.ListN.{length, set}
+use lib.Seq.{set-getD}
+use borrow.Author.Tests.{eq-eqb, eqb-false, leb-true, not-true, le-leb, ne-eqb}
 use Rattle.netlist.specs.Layout.{Design}
 use Rattle.netlist.specs.Sound.{Sound}
 use Rattle.netlist.proofs.Tests.{and-first, and-second}
-use Rattle.signal.specs.Asks.{Granted, asked}
+use Rattle.signal.specs.Asks.{Granted, asked, listed, NoBit, Serves}
 use Rattle.signal.specs.declared.asks.Ask.{Ask}
+use Rattle.signal.specs.declared.asks.Asks.{Asks}
 use Rattle.care.specs.Least.{maskAt, grant, widthSum, onesSum}
-use Rattle.care.specs.Sweep.{Fits, Named, joined, markFor, marksOf, Between, Settled, Swept}
+use Rattle.care.specs.Sweep.{Fits, Named, joined, markOf, markFor, marksOf, Between, Settled, Swept}
 use Rattle.care.proofs.Families.{Inside, inside-refl, inside-trans, granted-more, same-or-not, below-or-not, joined-same, joined-other, joined-above, joined-least, length-joined, still-named, length-grant, grant-above, grant-granted, grant-least, allBits, all-closed}
 use Rattle.care.proofs.Rounds.{asked-named, closed-grants}
 use Rattle.care.proofs.LeastMasks.{list-inside, no-more, ones-grow, ones-le}
@@ -50,6 +52,45 @@ module _ (i again at old new : ℕ) where
       go (inr n) =
           absurd (false≢true (sym e ∙ ap (λ (t : Bool). t && (leb again at && not (eqb old new))) (le-leb i at h)
           ∙ ap (λ (t : Bool). t && not (eqb old new)) (le-leb again at g) ∙ ap not (ne-eqb old new n)))
+
+-- asks of no bit change no mask and mark no record
+no-bit-joined : (masks : List ℕ) (x : Ask) → x .mask ≡ 0 → joined masks x ≡ masks
+no-bit-joined masks x e =
+    ap (λ (m : ℕ). set masks (x .operand) (bitOr (maskAt masks (x .operand)) m)) e ∙ ap (set masks (x .operand)) (or-zero-r (maskAt masks (x .operand)))
+    ∙ set-getD masks (x .operand) 0
+
+no-bit-mark : (i again : ℕ) (masks : List ℕ) (x : Ask) → x .mask ≡ 0 → markFor i again masks x ≡ again
+no-bit-mark i again masks x e =
+    let at = x .operand in
+    let old = maskAt masks at in
+    ap (markOf i again at old) (ap (bitOr old) e ∙ or-zero-r old)
+    ∙ ap (λ (t : Bool). cond (leb i at && (leb again at && not t)) (suc at) again) (eq-eqb old old refl)
+    ∙ ap (λ (t : Bool). cond (leb i at && t) (suc at) again) (and-false (leb again at)) ∙ ap (λ (t : Bool). cond t (suc at) again) (and-false (leb i at))
+
+no-bit-grant : (xs : List Ask) (masks : List ℕ) → NoBit xs → grant xs masks ≡ masks
+unfolding grant
+no-bit-grant [] masks n = refl
+no-bit-grant (x ∷ xs) masks n = no-bit-grant xs (joined masks x) (n .1) ∙ no-bit-joined masks x (n .0)
+
+no-bit-marks : (i again : ℕ) (xs : List Ask) (masks : List ℕ) → NoBit xs → marksOf i again xs masks ≡ again
+unfolding marksOf
+no-bit-marks i again [] masks n = refl
+no-bit-marks i again (x ∷ xs) masks n = no-bit-marks i (markFor i again masks x) xs (joined masks x) (n .1) ∙ no-bit-mark i again masks x (n .0)
+
+-- what the code's struct holds serves as well as what is asked
+pub serves-grant : (r : Asks) (xs : List Ask) (masks : List ℕ) → Serves r xs → grant (listed r) masks ≡ grant xs masks
+unfolding grant
+serves-grant r xs masks (inl e) = ap (λ (ys : List Ask). grant ys masks) e
+serves-grant r xs masks (inr n) = ap (λ (ys : List Ask). grant ys masks) (n .0) ∙ sym (no-bit-grant xs masks (n .1))
+
+pub serves-marks : (i again : ℕ) (r : Asks) (xs : List Ask) (masks : List ℕ) → Serves r xs → marksOf i again (listed r) masks ≡ marksOf i again xs masks
+unfolding marksOf
+serves-marks i again r xs masks (inl e) = ap (λ (ys : List Ask). marksOf i again ys masks) e
+serves-marks i again r xs masks (inr n) = ap (λ (ys : List Ask). marksOf i again ys masks) (n .0) ∙ sym (no-bit-marks i again xs masks (n .1))
+
+pub serves-named : (n : ℕ) (r : Asks) (xs : List Ask) → Serves r xs → Named n xs → Named n (listed r)
+serves-named n r xs (inl e) h = subst (λ (ys : List Ask). Named n ys) (sym e) h
+serves-named n r xs (inr q) h = subst (λ (ys : List Ask). Named n ys) (sym (q .0)) tt
 
 marked-none : (d : Design) (i again : ℕ) (masks : List ℕ) → Marked d i again masks masks again
 marked-none d i again masks = record { rises = omega arith; low = λ l. l; kept = λ j h g. refl; gained = omega arith }

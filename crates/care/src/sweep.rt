@@ -1,11 +1,13 @@
 // Backward sweeps over the records, until one adds no bit that an earlier record has to pass on.
 // A caller has an accepted file and a list with a mask within the width of each record.
+use bits::mask::low_table;
 use signal::asks::Ask;
 use signal::asks::Asks;
 use signal::asks::asked;
 ghost use mathlib.Core.Path.{_≡_};
 ghost use Prim.Native.Nat.{_+_, _<_, _^_};
 ghost use lib.ListN.{length};
+ghost use Rattle.bits.specs.Words.{lowMasks};
 ghost use Rattle.netlist.specs.Layout.{designOf, countOf};
 ghost use Rattle.netlist.specs.Sound.{Acceptance};
 ghost use Rattle.signal.specs.Asks.{listed};
@@ -65,15 +67,15 @@ fn join_all(list: &mut [u64], asks: Asks, i: usize, again: usize) -> usize
 
 // One sweep from record `top` - 1 down to 0. The records from `top` on are settled already. The answer is where the next sweep
 // starts: one more than the highest record that gained a bit after this one had passed it, or 0.
-fn sweep(file: &[u8], list: &mut [u64], top: usize) -> usize
-    requires { ⌜ Ready (now file) (now list) top ⌝ }
+fn sweep(file: &[u8], list: &mut [u64], low: &[u64], top: usize) -> usize
+    requires { ⌜ Ready (now file) (now list) top × (now low ≡ lowMasks) ⌝ }
     ensures { λ r. ⌜ Swept (designOf (now (file .entry))) (now (list .entry)) (now (list .exit)) r ⌝ }
 {
     let mut again: usize = 0;
     let mut i = top;
     while 0 < i {
         i -= 1;
-        let asks = asked(file, i, list[i]);
+        let asks = asked(file, low, i, list[i]);
         again = join_all(list, asks, i, again);
     }
     again
@@ -84,9 +86,10 @@ pub fn raise(file: &[u8], list: &mut [u64])
     requires { ⌜ Acceptance (now file) (countOf (now file)) × Fits (designOf (now file)) (now list) ⌝ }
     ensures { λ r. ⌜ now (list .exit) ≡ leastAbove (designOf (now (file .entry))) (now (list .entry)) ⌝ }
 {
+    let low = low_table();
     let mut top = list.len();
     loop {
-        top = sweep(file, list, top);
+        top = sweep(file, list, &low, top);
         if top == 0 {
             break;
         }

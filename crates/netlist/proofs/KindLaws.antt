@@ -7,7 +7,8 @@ use native.Mathlib.Omega.{arith}
 use borrow.Author.Tests.{ne-eqb}
 use lib.Dec.{eqb, lit<}
 use lib.ListN.{getD, drop, replicate, List·getD-eq-default, List·getD-map}
-use Rattle.bits.proofs.Table.{at as table-at}
+use Rattle.bits.specs.Lists.{wordsOf, wordsFrom}
+use Rattle.bits.proofs.ListLaws.{word-at}
 use Rattle.netlist.specs.Check.{isOutput, operandsOf, kindCount}
 use Rattle.netlist.specs.Kinds.{kinds, kindOf, codeOf, usesOf}
 use Rattle.netlist.specs.declared.record.Fields.{Fields}
@@ -78,8 +79,8 @@ code-low (Below a b) = lit< tt
 
 -- and the number of a kind that a number below 15 gives is that number
 pub code-back : (code : ℕ) (f : Fields) → code < kindCount → codeOf (kindOf code f) ≡ code
-unfolding kindOf
-code-back code f h = sym (List·getD-map codeOf (kinds f) code Input) ∙ table-at (λ n. n) kindCount code h
+unfolding wordsOf wordsFrom kindOf
+code-back code f h = sym (List·getD-map codeOf (kinds f) code Input) ∙ word-at (λ n. n) kindCount code h
 
 -- the operand fields are the operands, and 0 where there is none
 pub record Padded (u : Uses) : Type 0 where

@@ -1,9 +1,9 @@
--- The laws of the care rules, kind by kind: what is asked grows with D, and it stays within the operands' widths.
+-- The laws of the care rules, kind by kind: what is asked grows with D, stays within the operands' widths, and is mostly no bit for D 0.
 -- Assumes nothing. The crates above use these laws and look at no kind.
-use mathlib.Core.Path.{_≡_, sym, ap, subst}
+use mathlib.Core.Path.{_≡_, refl, sym, ap, subst}
 use mathlib.Core.Bool.{Bool, cond}
-use Prim.Native.Nat.{ℕ, zero, suc, _^_, _≤_, _<_}
-use native.Mathlib.Nat.{mod-lt}
+use Prim.Native.Nat.{ℕ, zero, suc, _%_, _^_, _≤_, _<_}
+use native.Mathlib.Nat.{mod-lt, zero-mul, zero-div, zero-mod}
 use native.Mathlib.Omega.{arith}
 use lib.Bits.{bitAnd}
 use lib.Dec.{eqb·suc-zero}
@@ -11,7 +11,7 @@ use lib.Pow.{pow-pos}
 use Rattle.bits.specs.Masks.{Within}
 use Rattle.bits.specs.Words.{lowMask}
 use Rattle.bits.proofs.Order.{within-refl, within-trans, within-zero, within-le, within-low, within-lt, low-mono, meet-right, meet-mono}
-use Rattle.bits.proofs.Shifts.{cut-mono, up-mono, up-lt, down-mono, down-lt, length-le, length-low-mono}
+use Rattle.bits.proofs.Shifts.{cut-mono, up-mono, up-lt, down-mono, down-lt, length-zero, length-le, length-low-mono}
 use Rattle.netlist.specs.Check.{maxWidth, widthRulesAt}
 use Rattle.netlist.specs.Kinds.{usesOf, widthRules}
 use Rattle.netlist.specs.Layout.{Design}
@@ -21,7 +21,7 @@ use Rattle.netlist.specs.declared.record.Kind.{Kind}
 use Rattle.netlist.specs.declared.record.Kind.the-variants.{Input, Constant, Register, Output, Extract, Concat, And, Or, Xor, Mux, Add, Sub, Mul, Equal, Below}
 use Rattle.netlist.specs.declared.record.Record.{Record}
 use Rattle.netlist.proofs.SoundLaws.{OperandsBelow, operands-below, word-64}
-use Rattle.signal.specs.Asks.{upToHighest, allIfAny, asksOf, caredOf, asked, Granted, Fit}
+use Rattle.signal.specs.Asks.{upToHighest, allIfAny, asksOf, caredOf, asked, Granted, Fit, NoBit}
 
 -- all bits if D is not 0: more of D asks for no less
 any-all : (w D : ℕ) → allIfAny w (suc D) ≡ lowMask w
@@ -95,6 +95,24 @@ module _ (d : Design) (w D : ℕ) (h : D < 2 ^ w) where
   asks-fit (Mul a b) o n r = (o .a, low-bits a (r .0), (o .b, low-bits b (r .1 .0), tt))
   asks-fit (Equal a b) o n r = (o .a, any-within (d .at a .width) D, (o .b, any-within (d .at b .width) D, tt))
   asks-fit (Below a b) o n r = (o .a, any-within (d .at a .width) D, (o .b, any-within (d .at b .width) D, tt))
+
+-- with D 0, a kind with fewer operands than a mux asks for no bit
+pub asks-quiet : (at : ℕ → Record) (kind : Kind) → usesOf kind .count < 3 → NoBit (asksOf at kind 0)
+asks-quiet at Input h = tt
+asks-quiet at (Constant k) h = tt
+asks-quiet at (Register a k) h = (refl, tt)
+asks-quiet at (Output a) h = (refl, tt)
+asks-quiet at (Extract a k) h = (ap (λ (m : ℕ). m % 2 ^ 64) (zero-mul (2 ^ k)), tt)
+asks-quiet at (Concat a b) h = (zero-div (2 ^ at b .width), (zero-mod (2 ^ at b .width), tt))
+asks-quiet at (And a b) h = (refl, (refl, tt))
+asks-quiet at (Or a b) h = (refl, (refl, tt))
+asks-quiet at (Xor a b) h = (refl, (refl, tt))
+asks-quiet at (Mux a b c) h = absurd (let z : 3 < 3 = h in omega arith)
+asks-quiet at (Add a b) h = (ap lowMask length-zero, (ap lowMask length-zero, tt))
+asks-quiet at (Sub a b) h = (ap lowMask length-zero, (ap lowMask length-zero, tt))
+asks-quiet at (Mul a b) h = (ap lowMask length-zero, (ap lowMask length-zero, tt))
+asks-quiet at (Equal a b) h = (refl, (refl, tt))
+asks-quiet at (Below a b) h = (refl, (refl, tt))
 
 -- the two laws for the records of a sound design
 module _ (d : Design) (s : Sound d) (i : ℕ) (h : i < d .count) where

@@ -1,6 +1,8 @@
 -- The care rules: what a record asks of its operands, kind by kind.
 -- Assumes nothing.
+use mathlib.Core.Path.{_≡_}
 use mathlib.Core.Bool.{cond}
+use mathlib.Core.Logic.{_⊎_}
 use mathlib.Core.List.{List, [], _∷_}
 use Prim.Native.Nat.{ℕ, _+_, _≤_, _<_, _^_}
 use lib.Bits.{bitAnd}
@@ -76,6 +78,15 @@ Fit d (x ∷ xs) = (x .operand < d .count) × Within (x .mask) (lowMask (d .at (
 -- The asks that the code's struct holds.
 abbrev pub listed : Asks → List Ask
 listed r = take (r .count) (r .first ∷ r .second ∷ r .third ∷ [])
+
+-- No bit is asked.
+abbrev pub NoBit : List Ask → Type 0
+NoBit [] = Unit {0}
+NoBit (x ∷ xs) = (x .mask ≡ 0) × NoBit xs
+
+-- The code's struct holds just what is asked, or nothing where no bit is.
+abbrev pub Serves : Asks → List Ask → Type 0
+Serves r xs = (listed r ≡ xs) ⊎ ((listed r ≡ []) × NoBit xs)
 
 -- The file holds the first two operands of a kind, and they are words of at most 64 bits.
 pub record Readable (file : List ℕ) (kind : Kind) : Type 0 where

@@ -4,17 +4,22 @@ use bits::arith::shl;
 use bits::arith::shr;
 use bits::mask::bit_length;
 use bits::mask::cut_to;
+use bits::mask::low_entry;
 use bits::mask::low_mask;
+use netlist::layout::keep_at;
 use netlist::layout::record_at;
 use netlist::layout::width_at;
 use netlist::record::Kind;
 ghost use mathlib.Core.Path.{_≡_};
 ghost use mathlib.Core.List.{[], _∷_};
-ghost use Prim.Native.Nat.{_≤_, _<_, _^_};
-ghost use Rattle.bits.specs.Words.{cut, down};
-ghost use Rattle.netlist.specs.Layout.{designOf, countOf};
+ghost use Prim.Native.Nat.{_+_, _≤_, _<_};
+ghost use lib.Dec.{ltb};
+ghost use lib.ListN.{length};
+ghost use Rattle.bits.specs.Words.{cut, down, lowMasks};
+ghost use Rattle.netlist.specs.Kinds.{usesOf};
+ghost use Rattle.netlist.specs.Layout.{designOf, countOf, recordStart, recordSize};
 ghost use Rattle.netlist.specs.Sound.{Acceptance};
-ghost use Rattle.signal.specs.Asks.{ask, listed, upToHighest, allIfAny, asksOf, asked, Readable};
+ghost use Rattle.signal.specs.Asks.{ask, listed, upToHighest, allIfAny, asksOf, asked, Serves, Readable};
 
 // A mask that is asked of an operand.
 pub struct Ask {
@@ -86,11 +91,12 @@ impl Asks {
     }
 }
 
-// Every bit from 0 to the highest one in d, by the table of low masks.
-fn up_to_highest(d: u64) -> u64
+// Every bit from 0 to the highest one in d, by the table of the low masks.
+fn up_to_highest(low: &[u64], d: u64) -> u64
+    requires { ⌜ now low ≡ lowMasks ⌝ }
     ensures { λ r. ⌜ r ≡ upToHighest d ⌝ }
 {
-    low_mask(bit_length(d))
+    low_entry(low, bit_length(d))
 }
 
 // All w bits if d is not 0, and nothing if it is.
@@ -102,11 +108,12 @@ fn all_if_any(d: u64, w: u64) -> u64
 }
 
 // A sum, difference or product: a carry may reach every bit above it.
-fn of_carries(a: usize, b: usize, d: u64) -> Asks
+fn of_carries(low: &[u64], a: usize, b: usize, d: u64) -> Asks
+    requires { ⌜ now low ≡ lowMasks ⌝ }
     ensures { λ r. ⌜ listed r ≡ ask a (upToHighest d) ∷ ask b (upToHighest d) ∷ [] ⌝ }
 {
-    let low = up_to_highest(d);
-    Asks::two(a, low, b, low)
+    let bits = up_to_highest(low, d);
+    Asks::two(a, bits, b, bits)
 }
 
 // A comparison of operands of widths v and w.
@@ -125,8 +132,8 @@ fn of_concat(a: usize, b: usize, w: u64, d: u64) -> Asks
 }
 
 // What a kind asks, with d for D.
-fn of_kind(file: &[u8], kind: Kind, d: u64) -> Asks
-    requires { ⌜ Readable (now file) kind ⌝ }
+fn of_kind(file: &[u8], low: &[u64], kind: Kind, d: u64) -> Asks
+    requires { ⌜ Readable (now file) kind × (now low ≡ lowMasks) ⌝ }
     ensures { λ r. ⌜ listed r ≡ asksOf (designOf (now (file .entry)) .at) kind d ⌝ }
 {
     match kind {
@@ -140,20 +147,35 @@ fn of_kind(file: &[u8], kind: Kind, d: u64) -> Asks
         Kind::Or { a, b } => Asks::two(a, d, b, d),
         Kind::Xor { a, b } => Asks::two(a, d, b, d),
         Kind::Mux { a, b, c } => Asks::three(a, 1, b, d, c, d),
-        Kind::Add { a, b } => of_carries(a, b, d),
-        Kind::Sub { a, b } => of_carries(a, b, d),
-        Kind::Mul { a, b } => of_carries(a, b, d),
+        Kind::Add { a, b } => of_carries(low, a, b, d),
+        Kind::Sub { a, b } => of_carries(low, a, b, d),
+        Kind::Mul { a, b } => of_carries(low, a, b, d),
         Kind::Equal { a, b } => of_comparison(a, width_at(file, a), b, width_at(file, b), d),
         Kind::Below { a, b } => of_comparison(a, width_at(file, a), b, width_at(file, b), d),
     }
 }
 
-// What record i asks when its mask is m.
-pub fn asked(file: &[u8], i: usize, m: u64) -> Asks
-    requires { ⌜ Acceptance (now file) (countOf (now file)) × (i < countOf (now file)) ⌝ }
-    ensures { λ r. ⌜ listed r ≡ asked (designOf (now (file .entry)) .at) i m ⌝ }
+// Whether record i has fewer operands than a mux, and so asks for no bit when its D is 0.
+fn is_quiet(file: &[u8], i: usize) -> bool
+    requires { ⌜ recordStart i + recordSize ≤ length (now file) ⌝ }
+    ensures { λ r. ⌜ r ≡ ltb (usesOf (designOf (now (file .entry)) .at i .kind) .count) 3 ⌝ }
 {
     let record = record_at(file, i);
     let kind = record.kind;
-    of_kind(file, kind, m & record.keep)
+    let uses = kind.uses();
+    uses.count < 3
+}
+
+// What record i asks when its mask is m, by a table of the low masks. Where nothing is asked, the kind is not looked at further.
+pub fn asked(file: &[u8], low: &[u64], i: usize, m: u64) -> Asks
+    requires { ⌜ Acceptance (now file) (countOf (now file)) × (i < countOf (now file)) × (now low ≡ lowMasks) ⌝ }
+    ensures { λ r. ⌜ Serves r (asked (designOf (now (file .entry)) .at) i m) ⌝ }
+{
+    let d = m & keep_at(file, i);
+    if d == 0 && is_quiet(file, i) {
+        return Asks::none();
+    }
+    let record = record_at(file, i);
+    let kind = record.kind;
+    of_kind(file, low, kind, d)
 }

@@ -1,19 +1,27 @@
--- `bits::mask::low_mask` meets its contract: its table is the table of the low masks, which antt computes.
--- Assumes nothing.
-use Rattle.bits.proofs.Table.{at}
-use Rattle.bits.specs.Words.{lowMask}
+use mathlib.Core.Path.{_≡_, sym, ap, subst, _∙_}
+use Prim.Native.Nat.{ℕ, _*_, _-_, _%_, _^_, _≤_, _<_}
+use native.Mathlib.Omega.{arith}
+use native.Mathlib.Nat.{one-mul, mod-eq-of-lt}
+use lib.Pow.{pow-lt, pow-pos}
 use borrow.Author.Needs.{needs}
 use Rattle.bits.proofs.mask.low_mask.Statement.{statement}
 use Rattle.bits.proofs.mask.low_mask.Tie as tie
 
-mul-result : tie.Need-mul-result
-mul-result c = search needs
+-- a one moved up within the word
+moved-one : (n : ℕ) → n < 64 → 1 * 2 ^ n % 2 ^ 64 ≡ 2 ^ n
+moved-one n h = ap (λ (m : ℕ). m % 2 ^ 64) (one-mul (2 ^ n)) ∙ mod-eq-of-lt (pow-lt h)
 
-array-read-result : tie.Need-array-read-result
-array-read-result c = search needs
+shl-result : tie.Need-shl-result
+shl-result c = search needs
+
+sub-result : tie.Need-sub-result
+sub-result c = subst (λ (m : ℕ). 1 ≤ m) (sym (moved-one (c .before .args .n) (c .if1 .taken))) (pow-pos (c .before .args .n))
 
 returns : tie.Need-returns
-returns c = at lowMask 65 (c .args .n) (search needs)
+returns c = ap (λ (m : ℕ). m - 1) (moved-one (c .before .args .n) (c .if1 .taken))
+
+returns-2 : tie.Need-returns-2
+returns-2 c = ap (λ (n : ℕ). 2 ^ n - 1) (let h = c .if1 .left in let p = c .before .pre in let e : 64 ≡ c .before .args .n = omega arith in e)
 
 pub low-mask-spec : {M : Type 1} → statement M
-low-mask-spec = tie.close (tie.spec mul-result array-read-result returns)
+low-mask-spec = tie.close (tie.spec shl-result sub-result returns returns-2)

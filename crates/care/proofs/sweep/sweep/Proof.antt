@@ -1,79 +1,79 @@
 use mathlib.Core.List.{List}
-use mathlib.Core.Path.{_≡_, sym, ap, subst, _∙_}
+use mathlib.Core.Path.{_≡_, sym, subst, _∙_}
 use Prim.Native.Nat.{ℕ, suc, _-_, _≤_, _<_}
 use native.Mathlib.Omega.{arith}
-use lib.ListN.{length}
 use denote.Ref.{now}
 use Rattle.netlist.specs.Sound.{Sound}
-use Rattle.netlist.specs.Layout.{Design, designOf, countOf}
-use Rattle.signal.specs.declared.asks.Ask.{Ask}
-use Rattle.signal.specs.Asks.{asked}
-use Rattle.care.proofs.SweepLaws.{Sweeping, sweep-begins, sweep-step, sweep-ends}
+use Rattle.netlist.specs.Layout.{designOf, countOf, Design}
+use Rattle.signal.specs.declared.asks.Asks.{Asks}
+use Rattle.signal.specs.Asks.{listed, asked, Serves}
+use Rattle.care.proofs.SweepLaws.{Sweeping, sweep-begins, sweep-step, sweep-ends, serves-grant, serves-marks, serves-named}
 use Rattle.care.proofs.Rounds.{asked-named}
-use Rattle.care.specs.Sweep.{Named, marksOf}
+use Rattle.care.specs.Sweep.{marksOf}
 use Rattle.care.specs.Least.{grant, maskAt}
 use Rattle.care.proofs.sweep.sweep.Statement.{statement}
 use Rattle.care.proofs.sweep.sweep.Tie as tie
 
 -- a turn: what the calls promise, put into the step of the sweep
-turn : (d : Design) → Sound d → (before masks after : List ℕ) (again next i j : ℕ) (xs : List Ask) → i < d .count → j ≡ suc i
-    → xs ≡ asked (d .at) i (maskAt masks i) → after ≡ grant xs masks → next ≡ marksOf i again xs masks → Sweeping d before masks again j → Sweeping d before after next i
-turn d s before masks after again next i j xs h k e a m w =
-    let f = ap (λ (ys : List Ask). grant ys masks) (sym e) ∙ sym a in
-    let g = ap (λ (ys : List Ask). marksOf i again ys masks) (sym e) ∙ sym m in
+turn : (d : Design) → Sound d → (before masks after : List ℕ) (again next i j : ℕ) (r : Asks) → i < d .count → j ≡ suc i
+    → Serves r (asked (d .at) i (maskAt masks i)) → after ≡ grant (listed r) masks → next ≡ marksOf i again (listed r) masks → Sweeping d before masks again j
+    → Sweeping d before after next i
+turn d s before masks after again next i j r h k e a m w =
+    let xs = asked (d .at) i (maskAt masks i) in
+    let f = sym (a ∙ serves-grant r xs masks e) in
+    let g = sym (m ∙ serves-marks i again r xs masks e) in
     subst (λ (l : List ℕ). Sweeping d before l next i) f
-    (subst (λ (n : ℕ). Sweeping d before (grant (asked (d .at) i (maskAt masks i)) masks) n i) g
+    (subst (λ (n : ℕ). Sweeping d before (grant xs masks) n i) g
     (sweep-step d s before masks again i h (subst (λ (n : ℕ). Sweeping d before masks again n) k w)))
 
 abbrev Inv-loop : tie.InvT-loop
-Inv-loop file list₀ top again₀ i₀ list again i = (i ≤ top) × Sweeping (designOf file) list₀ list again i
+Inv-loop file list₀ low top again₀ i₀ list again i = (i ≤ top) × Sweeping (designOf file) list₀ list again i
 
 abbrev μ-loop : tie.MeasureT-loop
-μ-loop file list₀ top again₀ i₀ list again i = i
+μ-loop file list₀ low top again₀ i₀ list again i = i
 
 loop-holds : tie.Need-loop-holds Inv-loop μ-loop
 unfolding designOf
-loop-holds c = let p = c .before .before .pre in (omega arith, sweep-begins (designOf (now (c .before .before .args .file))) _ (c .before .before .args .top) (p .fits) (p .settled))
+loop-holds c = let p = c .before .before .before .pre .0 in (omega arith, sweep-begins (designOf (now (c .before .before .before .args .file))) _ (c .before .before .before .args .top) (p .fits) (p .settled))
 
 sub-i : tie.Need-sub-i Inv-loop μ-loop
 sub-i c = omega arith
 
 mul-asked : tie.Need-mul-asked Inv-loop μ-loop
 unfolding designOf
-mul-asked c = let f = c .before .before .before .before .pre .accepted .sound .few in let l = c .before .before .before .before .pre .low in let i = c .before .loop .inv .0 in omega arith
+mul-asked c = let f = c .before .before .before .before .before .pre .0 .accepted .sound .few in let l = c .before .before .before .before .before .pre .0 .low in let i = c .before .loop .inv .0 in omega arith
 
 slice-read-asked : tie.Need-slice-read-asked Inv-loop μ-loop
 unfolding designOf
-slice-read-asked c = let e = c .before .before .loop .inv .1 .size in let l = c .before .before .before .before .before .pre .low in let i = c .before .before .loop .inv .0 in omega arith
+slice-read-asked c = let e = c .before .before .loop .inv .1 .size in let l = c .before .before .before .before .before .before .pre .0 .low in let i = c .before .before .loop .inv .0 in omega arith
 
 asked-requires : tie.Need-asked-requires Inv-loop μ-loop
-asked-requires c κs = (c .before .before .before .before .before .pre .accepted, let l = c .before .before .before .before .before .pre .low in omega arith)
+asked-requires c κs = (c .before .before .before .before .before .before .pre .0 .accepted, let l = c .before .before .before .before .before .before .pre .0 .low in omega arith, c .before .before .before .before .before .before .pre .1)
 
 join-all-requires : tie.Need-join-all-requires Inv-loop μ-loop
 unfolding designOf
-join-all-requires c κs = let f = now (c .before .before .before .before .before .before .before .args .file) in
+join-all-requires c κs = let f = now (c .before .before .before .before .before .before .before .before .args .file) in
     let w = c .before .before .before .before .loop .inv .1 in
-    let h : c .before .before .before .before .loop .i - 1 < countOf f = let l = c .before .before .before .before .before .before .before .pre .low in let i = c .before .before .before .before .loop .inv .0 in let t = c .before .before .before .loop-test .taken in omega arith in
-    subst (λ (xs : List Ask). Named (length (c .before .before .before .before .loop .list)) xs) (sym (c .before .asked .ensures))
-    (asked-named (designOf f) (c .before .before .before .before .before .before .before .pre .accepted .sound) (c .before .before .before .before .loop .list) (w .size) (c .before .before .before .before .loop .i - 1) h (maskAt (c .before .before .before .before .loop .list) (c .before .before .before .before .loop .i - 1)))
+    let h : c .before .before .before .before .loop .i - 1 < countOf f = let l = c .before .before .before .before .before .before .before .before .pre .0 .low in let i = c .before .before .before .before .loop .inv .0 in let t = c .before .before .before .loop-test .taken in omega arith in
+    serves-named _ (c .before .asked .result) _ (c .before .asked .ensures) (asked-named (designOf f) (c .before .before .before .before .before .before .before .before .pre .0 .accepted .sound) (c .before .before .before .before .loop .list) (w .size) (c .before .before .before .before .loop .i - 1) h (maskAt (c .before .before .before .before .loop .list) (c .before .before .before .before .loop .i - 1)))
 
 loop-less : tie.Need-loop-less Inv-loop μ-loop
 loop-less c = omega arith
 
 loop-again : tie.Need-loop-again Inv-loop μ-loop
 unfolding designOf
-loop-again c = let f = now (c .before .before .before .before .before .before .before .before .before .before .args .file) in
+loop-again c = let f = now (c .before .before .before .before .before .before .before .before .before .before .before .args .file) in
     let l = c .before .before .before .before .before .before .before .loop in
-    let h : l .i - 1 < countOf f = let b = c .before .before .before .before .before .before .before .before .before .before .pre .low in let i = l .inv .0 in let t = c .before .before .before .before .before .before .loop-test .taken in omega arith in (
+    let h : l .i - 1 < countOf f = let b = c .before .before .before .before .before .before .before .before .before .before .before .pre .0 .low in let i = l .inv .0 in let t = c .before .before .before .before .before .before .loop-test .taken in omega arith in (
       let i = l .inv .0 in omega arith,
-      turn (designOf f) (c .before .before .before .before .before .before .before .before .before .before .pre .accepted .sound) _ (l .list) _ (l .again) _ (l .i - 1) (l .i) _ h (let t = c .before .before .before .before .before .before .loop-test .taken in omega arith) (c .before .before .before .before .asked .ensures) (c .before .before .join-all .ensures .0) (c .before .before .join-all .ensures .1) (l .inv .1),
+      turn (designOf f) (c .before .before .before .before .before .before .before .before .before .before .before .pre .0 .accepted .sound) _ (l .list) _ (l .again) _ (l .i - 1) (l .i) (c .before .before .before .before .asked .result) h (let t = c .before .before .before .before .before .before .loop-test .taken in omega arith) (c .before .before .before .before .asked .ensures) (c .before .before .join-all .ensures .0) (c .before .before .join-all .ensures .1) (l .inv .1),
     )
 
 same-length : tie.Need-same-length Inv-loop μ-loop
-same-length c = c .before .loop .inv .1 .size ∙ sym (c .before .before .before .before .pre .fits .size)
+same-length c = c .before .loop .inv .1 .size ∙ sym (c .before .before .before .before .before .pre .0 .fits .size)
 
 returns : tie.Need-returns Inv-loop μ-loop
-returns c = sweep-ends _ _ _ _ (subst (λ (n : ℕ). Sweeping (designOf (now (c .before .before .before .before .args .file))) (now (c .before .before .before .before .args .list)) (c .before .loop .list) (c .before .loop .again) n) (let t = c .loop-test .left in omega arith) (c .before .loop .inv .1))
+returns c = sweep-ends _ _ _ _ (subst (λ (n : ℕ). Sweeping (designOf (now (c .before .before .before .before .before .args .file))) (now (c .before .before .before .before .before .args .list)) (c .before .loop .list) (c .before .loop .again) n) (let t = c .loop-test .left in omega arith) (c .before .loop .inv .1))
 
 pub sweep-spec : {M : Type 1} → statement M
 sweep-spec =

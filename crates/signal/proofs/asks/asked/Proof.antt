@@ -1,23 +1,54 @@
+use mathlib.Core.Logic.{inl, inr}
 use mathlib.Core.Path.{sym, ap, subst, _∙_}
+use Prim.Native.Nat.{ℕ}
 use lib.Bits.{bitAnd}
+use borrow.Author.Tests.{ltb-true}
 use denote.Ref.{now}
 use Rattle.netlist.specs.declared.record.Record.{Record}
-use Rattle.netlist.specs.Layout.{designOf}
-use Rattle.signal.specs.Asks.{asked, asksOf, Readable}
+use Rattle.netlist.specs.Layout.{designOf, recordAt}
+use Rattle.signal.specs.Asks.{asked, asksOf, Readable, NoBit}
+use Rattle.signal.proofs.RuleLaws.{asks-quiet}
 use Rattle.signal.proofs.Reading.{holds-record, readable}
 use Rattle.signal.proofs.asks.asked.Statement.{statement}
 use Rattle.signal.proofs.asks.asked.Tie as tie
 
+keep-at-requires : tie.Need-keep-at-requires
+keep-at-requires c κs = holds-record (now (c .before .before .args .file)) (c .before .before .pre .0) (c .before .before .args .i) (c .before .before .pre .1)
+
+is-quiet-requires : tie.Need-is-quiet-requires
+is-quiet-requires c κs = holds-record (now (c .before .before .before .before .args .file)) (c .before .before .before .before .pre .0) (c .before .before .before .before .args .i) (c .before .before .before .before .pre .1)
+
+none-requires : tie.Need-none-requires
+none-requires c κs = tt
+
+returns : tie.Need-returns
+unfolding asked designOf recordAt
+returns c = let at = designOf (now (c .before .before .before .before .before .before .before .args .file)) .at in
+    let i = c .before .before .before .before .before .before .before .args .i in
+    let d = sym (ap (bitAnd (c .before .before .before .before .before .before .before .args .m)) (c .before .before .before .before .keep-at .ensures)) ∙ c .before .before .before .if1 .taken in
+    inr (c .none .ensures, subst (λ (x : ℕ). NoBit (asksOf at (at i .kind) x)) (sym d) (asks-quiet at (at i .kind) (ltb-true _ _ (sym (c .before .before .is-quiet .ensures) ∙ c .before .if2 .taken))))
+
 record-at-requires : tie.Need-record-at-requires
-record-at-requires c κs = holds-record (now (c .before .args .file)) (c .before .pre .0) (c .before .args .i) (c .before .pre .1)
+record-at-requires c κs = holds-record (now (c .before .before .before .before .args .file)) (c .before .before .before .before .pre .0) (c .before .before .before .before .args .i) (c .before .before .before .before .pre .1)
 
 of-kind-requires : tie.Need-of-kind-requires
 unfolding designOf
-of-kind-requires c κs = subst (λ (r : Record). Readable (now (c .before .before .before .args .file)) (r .kind)) (sym (c .before .record-at .ensures)) (readable (now (c .before .before .before .args .file)) (c .before .before .before .pre .0) (c .before .before .before .args .i) (c .before .before .before .pre .1))
+of-kind-requires c κs = (subst (λ (r : Record). Readable (now (c .before .before .before .before .before .args .file)) (r .kind)) (sym (c .record-at .ensures)) (readable (now (c .before .before .before .before .before .args .file)) (c .before .before .before .before .before .pre .0) (c .before .before .before .before .before .args .i) (c .before .before .before .before .before .pre .1)), c .before .before .before .before .before .pre .2)
 
-returns : tie.Need-returns
-unfolding asked designOf
-returns c = c .of-kind .ensures ∙ ap (λ (r : Record). asksOf (designOf (now (c .before .before .before .before .args .file)) .at) (r .kind) (bitAnd (c .before .before .before .before .args .m) (r .keep))) (c .before .before .record-at .ensures)
+returns-2 : tie.Need-returns-2
+unfolding asked designOf recordAt
+returns-2 c = inl
+    (c .of-kind .ensures ∙ ap (λ (r : Record). asksOf (designOf (now (c .before .before .before .before .before .before .args .file)) .at) (r .kind) (bitAnd (c .before .before .before .before .before .before .args .m) (c .before .before .before .keep-at .result))) (c .before .record-at .ensures)
+    ∙ ap (λ (x : ℕ). asksOf (designOf (now (c .before .before .before .before .before .before .args .file)) .at) (designOf (now (c .before .before .before .before .before .before .args .file)) .at (c .before .before .before .before .before .before .args .i) .kind) (bitAnd (c .before .before .before .before .before .before .args .m) x)) (c .before .before .before .keep-at .ensures))
 
 pub asked-spec : {M : Type 1} → statement M
-asked-spec = tie.close (tie.spec record-at-requires of-kind-requires returns)
+asked-spec =
+    tie.close
+    (tie.spec
+    keep-at-requires
+    is-quiet-requires
+    none-requires
+    returns
+    record-at-requires
+    of-kind-requires
+    returns-2)

@@ -1,12 +1,11 @@
-use borrow.Author.Needs.{needs}
 use Rattle.signal.proofs.asks.of_carries.Statement.{statement}
 use Rattle.signal.proofs.asks.of_carries.Tie as tie
 
 up-to-highest-requires : tie.Need-up-to-highest-requires
-up-to-highest-requires c κs = search needs
+up-to-highest-requires c κs = c .before .pre
 
 two-requires : tie.Need-two-requires
-two-requires c κs = search needs
+two-requires c κs = tt
 
 returns : tie.Need-returns
 returns c = rw (← c .before .up-to-highest .ensures) (c .two .ensures)

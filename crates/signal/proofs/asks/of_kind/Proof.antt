@@ -44,7 +44,7 @@ enum-known-kind-4 : tie.Need-enum-known-kind-4
 enum-known-kind-4 c = c .match .keys6
 
 width-at-requires : tie.Need-width-at-requires
-width-at-requires c κs = (subst (λ (k : Kind). Readable (now (c .before .before .before .before .args .file)) k) (c .before .kind4 .given .1) (c .before .before .before .before .pre)) .second
+width-at-requires c κs = (subst (λ (k : Kind). Readable (now (c .before .before .before .before .before .args .file)) k) (c .before .kind4 .given .1) (c .before .before .before .before .before .pre .0)) .second
 
 of-concat-requires : tie.Need-of-concat-requires
 of-concat-requires c κs = tt
@@ -77,32 +77,32 @@ enum-known-kind-9 : tie.Need-enum-known-kind-9
 enum-known-kind-9 c = c .match .keys11
 
 of-carries-requires : tie.Need-of-carries-requires
-of-carries-requires c κs = tt
+of-carries-requires c κs = c .before .before .before .before .before .pre .1
 
 enum-known-kind-10 : tie.Need-enum-known-kind-10
 enum-known-kind-10 c = c .match .keys12
 
 of-carries-requires-2 : tie.Need-of-carries-requires-2
-of-carries-requires-2 c κs = tt
+of-carries-requires-2 c κs = c .before .before .before .before .before .pre .1
 
 enum-known-kind-11 : tie.Need-enum-known-kind-11
 enum-known-kind-11 c = c .match .keys13
 
 of-carries-requires-3 : tie.Need-of-carries-requires-3
-of-carries-requires-3 c κs = tt
+of-carries-requires-3 c κs = c .before .before .before .before .before .pre .1
 
 enum-known-kind-12 : tie.Need-enum-known-kind-12
 enum-known-kind-12 c = c .match .keys14
 
 width-at-requires-2 : tie.Need-width-at-requires-2
-width-at-requires-2 c κs = (subst (λ (k : Kind). Readable (now (c .before .before .before .before .args .file)) k) (c .before .kind12 .given .1) (c .before .before .before .before .pre)) .first
+width-at-requires-2 c κs = (subst (λ (k : Kind). Readable (now (c .before .before .before .before .before .args .file)) k) (c .before .kind12 .given .1) (c .before .before .before .before .before .pre .0)) .first
 
 width-at-requires-3 : tie.Need-width-at-requires-3
-width-at-requires-3 c κs = (subst (λ (k : Kind). Readable (now (c .before .before .before .before .before .args .file)) k) (c .before .before .kind12 .given .1) (c .before .before .before .before .before .pre)) .second
+width-at-requires-3 c κs = (subst (λ (k : Kind). Readable (now (c .before .before .before .before .before .before .args .file)) k) (c .before .before .kind12 .given .1) (c .before .before .before .before .before .before .pre .0)) .second
 
 of-comparison-requires : tie.Need-of-comparison-requires
 unfolding designOf recordAt
-of-comparison-requires c κs = let r = subst (λ (k : Kind). Readable (now (c .before .before .before .before .before .before .args .file)) k) (c .before .before .before .kind12 .given .1) (c .before .before .before .before .before .before .pre) in (
+of-comparison-requires c κs = let r = subst (λ (k : Kind). Readable (now (c .before .before .before .before .before .before .before .args .file)) k) (c .before .before .before .kind12 .given .1) (c .before .before .before .before .before .before .before .pre .0) in (
   subst (λ (w : ℕ). w ≤ 64) (sym (c .before .width-at2 .ensures)) (r .narrow-first),
   subst (λ (w : ℕ). w ≤ 64) (sym (c .width-at3 .ensures)) (r .narrow-second),
 )
@@ -111,14 +111,14 @@ enum-known-kind-13 : tie.Need-enum-known-kind-13
 enum-known-kind-13 c = c .match .keys15
 
 width-at-requires-4 : tie.Need-width-at-requires-4
-width-at-requires-4 c κs = (subst (λ (k : Kind). Readable (now (c .before .before .before .before .args .file)) k) (c .before .kind13 .given .1) (c .before .before .before .before .pre)) .first
+width-at-requires-4 c κs = (subst (λ (k : Kind). Readable (now (c .before .before .before .before .before .args .file)) k) (c .before .kind13 .given .1) (c .before .before .before .before .before .pre .0)) .first
 
 width-at-requires-5 : tie.Need-width-at-requires-5
-width-at-requires-5 c κs = (subst (λ (k : Kind). Readable (now (c .before .before .before .before .before .args .file)) k) (c .before .before .kind13 .given .1) (c .before .before .before .before .before .pre)) .second
+width-at-requires-5 c κs = (subst (λ (k : Kind). Readable (now (c .before .before .before .before .before .before .args .file)) k) (c .before .before .kind13 .given .1) (c .before .before .before .before .before .before .pre .0)) .second
 
 of-comparison-requires-2 : tie.Need-of-comparison-requires-2
 unfolding designOf recordAt
-of-comparison-requires-2 c κs = let r = subst (λ (k : Kind). Readable (now (c .before .before .before .before .before .before .args .file)) k) (c .before .before .before .kind13 .given .1) (c .before .before .before .before .before .before .pre) in (
+of-comparison-requires-2 c κs = let r = subst (λ (k : Kind). Readable (now (c .before .before .before .before .before .before .before .args .file)) k) (c .before .before .before .kind13 .given .1) (c .before .before .before .before .before .before .before .pre .0) in (
   subst (λ (w : ℕ). w ≤ 64) (sym (c .before .width-at4 .ensures)) (r .narrow-first),
   subst (λ (w : ℕ). w ≤ 64) (sym (c .width-at5 .ensures)) (r .narrow-second),
 )
