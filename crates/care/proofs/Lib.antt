@@ -7,3 +7,4 @@ pub mod SweepLaws
 pub mod ListedAsks
 pub mod TallyLaws
 pub mod CallLaws
+pub mod LentList

@@ -6,8 +6,9 @@ use mathlib.Core.List.{List}
 use Prim.Native.Nat.{ℕ, zero, suc, _+_, _≤_, _<_}
 use native.Mathlib.Nat.{eq-or-lt-of-le}
 use native.Mathlib.Omega.{arith}
+use lib.ListN.{length}
 use Rattle.netlist.specs.Check.{maxCount, checkOf, checkFrom, refuseAt, firstBroken, headerRules, recordRules, wordRules}
-use Rattle.netlist.specs.Layout.{designOf, countOf, recordStart}
+use Rattle.netlist.specs.Layout.{designOf, countOf, recordStart, recordSize}
 use Rattle.netlist.specs.Sound.{Acceptance}
 use Rattle.netlist.specs.declared.check.Checked.{Checked}
 use Rattle.netlist.specs.declared.check.Checked.the-variants.{Accepted, Refused}
@@ -65,6 +66,10 @@ accepted file n e =
             };
       };
     }
+
+-- an accepted file holds all its records
+pub holds-record : (file : List ℕ) → Acceptance file (countOf file) → (i : ℕ) → i < countOf file → recordStart i + recordSize ≤ length file
+holds-record file a i h = let s = a .size in omega arith
 
 -- a refusal names a record below the limit of records
 refused-record : (file : List ℕ) (r : Refusal) (j left i : ℕ) → checkFrom file left i ≡ Refused r j → j < i + left

@@ -14,7 +14,7 @@ ghost use Rattle.netlist.specs.Rules.{testAll};
 // The sizes of the header and of a record, in bytes.
 pub const HEADER: usize = 8;
 
-const RECORD: usize = 24;
+pub const RECORD: usize = 24;
 
 // The length of a file of n records, which is also where record n would start.
 pub fn record_start(n: usize) -> usize

@@ -8,7 +8,8 @@ use Rattle.netlist.specs.declared.record.Record.{Record}
 use Rattle.netlist.specs.Layout.{designOf, recordAt}
 use Rattle.signal.specs.Asks.{asked, asksOf, Readable, NoBit}
 use Rattle.signal.proofs.RuleLaws.{asks-quiet}
-use Rattle.signal.proofs.Reading.{holds-record, readable}
+use Rattle.netlist.proofs.Acceptance.{holds-record}
+use Rattle.signal.proofs.Reading.{readable}
 use Rattle.signal.proofs.asks.asked.Statement.{statement}
 use Rattle.signal.proofs.asks.asked.Tie as tie
 
