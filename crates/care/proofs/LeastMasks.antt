@@ -21,8 +21,8 @@ use Rattle.netlist.specs.Layout.{Design}
 use Rattle.netlist.specs.Sound.{Sound}
 use Rattle.netlist.proofs.SoundLaws.{word-64}
 use Rattle.signal.specs.Asks.{asked}
-use Rattle.care.specs.Least.{Closed, Least, maskAt, outputSeed, roundTo, widthSum, onesSum, settle, leastAbove, masksOf}
-use Rattle.care.specs.Sweep.{Fits, Between, Settled}
+use Rattle.care.specs.Least.{Closed, Least, maskAt, outputSeed, roundTo, widthSum, onesSum, settle, leastAbove, masksOf, Fits}
+use Rattle.care.specs.Sweep.{Between, Settled}
 use Rattle.care.proofs.Families.{Inside, inside-refl, inside-trans, granted-more, below-or-not, allBits, all-closed}
 use Rattle.care.proofs.Rounds.{length-round, round-above, round-granted, round-least}
 

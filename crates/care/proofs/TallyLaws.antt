@@ -13,8 +13,7 @@ use Rattle.bits.proofs.Order.{low-within}
 use Rattle.netlist.specs.Check.{maxWidth}
 use Rattle.netlist.specs.Layout.{Design}
 use Rattle.netlist.specs.Sound.{Sound}
-use Rattle.care.specs.Least.{maskAt, widthSum, onesSum}
-use Rattle.care.specs.Sweep.{Fits}
+use Rattle.care.specs.Least.{maskAt, widthSum, onesSum, Fits}
 
 -- the sums over the records below i
 pub record Counted (d : Design) (masks : List ℕ) (widths ones i : ℕ) : Type 0 where

@@ -1,5 +1,6 @@
 -- The masks of a design: the smallest family that holds a seed and all that is asked under it, and a computation of it.
 -- Assumes nothing.
+use mathlib.Core.Path.{_≡_}
 use mathlib.Core.Bool.{cond}
 use mathlib.Core.List.{List, [], _∷_}
 use Prim.Native.Nat.{ℕ, zero, suc, _<_}
@@ -36,10 +37,18 @@ outputSeed d i = seedOf (roleAt d i) (d .at i .width)
 abbrev pub maskAt : List ℕ → ℕ → ℕ
 maskAt masks i = getD masks i 0
 
--- Masks, with what is asked joined to them: "A signal read by several takes the union."
+-- A list has a mask for each record, within its width.
+pub record Fits (d : Design) (masks : List ℕ) : Type 0 where
+  pub size : length masks ≡ d .count
+  pub narrow : (i : ℕ) → i < d .count → Within (maskAt masks i) (lowMask (d .at i .width))
+
+-- "A signal read by several takes the union": masks with one ask joined to them, and with several.
+abbrev pub joined : List ℕ → Ask → List ℕ
+joined masks x = set masks (x .operand) (bitOr (maskAt masks (x .operand)) (x .mask))
+
 unfoldable pub grant : List Ask → List ℕ → List ℕ
 grant [] masks = masks
-grant (x ∷ xs) masks = grant xs (set masks (x .operand) (bitOr (maskAt masks (x .operand)) (x .mask)))
+grant (x ∷ xs) masks = grant xs (joined masks x)
 
 -- Masks, with all that the records below i ask under them.
 unfoldable pub roundTo : Design → List ℕ → ℕ → List ℕ

@@ -6,28 +6,18 @@ use mathlib.Core.List.{List, [], _∷_}
 use Prim.Native.Nat.{ℕ, suc, _+_, _≤_, _<_, min}
 use lib.Bits.{bitOr}
 use lib.Dec.{eqb, leb}
-use lib.ListN.{length, set}
+use lib.ListN.{length}
 use Rattle.bits.specs.Masks.{Within}
-use Rattle.bits.specs.Words.{lowMask}
 use Rattle.netlist.specs.Layout.{Design, designOf, countOf}
 use Rattle.netlist.specs.Sound.{Acceptance}
 use Rattle.signal.specs.Asks.{asked, Granted}
 use Rattle.signal.specs.declared.asks.Ask.{Ask}
-use Rattle.care.specs.Least.{Closed, maskAt, onesSum}
-
--- A list has a mask for each record, within its width.
-pub record Fits (d : Design) (masks : List ℕ) : Type 0 where
-  pub size : length masks ≡ d .count
-  pub narrow : (i : ℕ) → i < d .count → Within (maskAt masks i) (lowMask (d .at i .width))
+use Rattle.care.specs.Least.{Closed, Fits, maskAt, joined, onesSum}
 
 -- Each ask names one of n records.
 abbrev pub Named : ℕ → List Ask → Type 0
 Named n [] = Unit {0}
 Named n (x ∷ xs) = (x .operand < n) × Named n xs
-
--- The list with one ask joined to it.
-abbrev pub joined : List ℕ → Ask → List ℕ
-joined masks x = set masks (x .operand) (bitOr (maskAt masks (x .operand)) (x .mask))
 
 -- One more than the highest record that a sweep standing at record i has to come back to: `again` so far, then a record at i or
 -- above whose mask changes from `old` to `new`.

@@ -10,9 +10,9 @@ ghost use lib.ListN.{length};
 ghost use Rattle.bits.specs.Words.{lowMasks};
 ghost use Rattle.netlist.specs.Layout.{designOf, countOf};
 ghost use Rattle.netlist.specs.Sound.{Acceptance};
-ghost use Rattle.signal.specs.Asks.{listed};
-ghost use Rattle.care.specs.Least.{grant, leastAbove};
-ghost use Rattle.care.specs.Sweep.{Fits, Named, joined, markOf, markFor, marksOf, Ready, Swept};
+ghost use Rattle.signal.specs.Held.{listed};
+ghost use Rattle.care.specs.Least.{grant, leastAbove, Fits, joined};
+ghost use Rattle.care.specs.Sweep.{Named, markOf, markFor, marksOf, Ready, Swept};
 
 // How far the next sweep has to go up, after the mask of record `at` changed from old to new while the sweep stood at i.
 fn mark(i: usize, again: usize, at: usize, old: u64, new: u64) -> usize

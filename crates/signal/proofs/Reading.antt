@@ -7,7 +7,7 @@ use Rattle.netlist.specs.Layout.{designOf, countOf}
 use Rattle.netlist.specs.Sound.{Acceptance}
 use Rattle.netlist.proofs.Acceptance.{holds-record}
 use Rattle.netlist.proofs.SoundLaws.{operands-below}
-use Rattle.signal.specs.Asks.{Readable}
+use Rattle.signal.specs.Held.{Readable}
 
 module _ (file : List ℕ) (a : Acceptance file (countOf file)) where
   pub readable : (i : ℕ) → i < countOf file → Readable file (designOf file .at i .kind)

@@ -21,7 +21,8 @@ use Rattle.netlist.specs.declared.record.Kind.{Kind}
 use Rattle.netlist.specs.declared.record.Kind.the-variants.{Input, Constant, Register, Output, Extract, Concat, And, Or, Xor, Mux, Add, Sub, Mul, Equal, Below}
 use Rattle.netlist.specs.declared.record.Record.{Record}
 use Rattle.netlist.proofs.SoundLaws.{OperandsBelow, operands-below, word-64}
-use Rattle.signal.specs.Asks.{upToHighest, allIfAny, asksOf, caredOf, asked, Granted, Fit, NoBit}
+use Rattle.signal.specs.Asks.{upToHighest, allIfAny, asksOf, caredOf, asked, Granted, Fit}
+use Rattle.signal.specs.Held.{NoBit}
 
 -- all bits if D is not 0: more of D asks for no less
 any-all : (w D : ℕ) → allIfAny w (suc D) ≡ lowMask w

@@ -1,23 +1,17 @@
 -- The care rules: what a record asks of its operands, kind by kind.
 -- Assumes nothing.
-use mathlib.Core.Path.{_≡_}
 use mathlib.Core.Bool.{cond}
-use mathlib.Core.Logic.{_⊎_}
 use mathlib.Core.List.{List, [], _∷_}
-use Prim.Native.Nat.{ℕ, _+_, _≤_, _<_, _^_}
+use Prim.Native.Nat.{ℕ, _<_}
 use lib.Bits.{bitAnd}
 use lib.Dec.{eqb}
-use lib.ListN.{length, take}
 use Rattle.bits.specs.Masks.{Within}
 use Rattle.bits.specs.Words.{lowMask, cut, up, down, bitLength}
-use Rattle.netlist.specs.Check.{maxWidth}
-use Rattle.netlist.specs.Kinds.{usesOf}
-use Rattle.netlist.specs.Layout.{Design, designOf, recordStart, recordSize}
+use Rattle.netlist.specs.Layout.{Design}
 use Rattle.netlist.specs.declared.record.Kind.{Kind}
 use Rattle.netlist.specs.declared.record.Kind.the-variants.{Input, Constant, Register, Output, Extract, Concat, And, Or, Xor, Mux, Add, Sub, Mul, Equal, Below}
 use Rattle.netlist.specs.declared.record.Record.{Record}
 use Rattle.signal.specs.declared.asks.Ask.{Ask}
-use Rattle.signal.specs.declared.asks.Asks.{Asks}
 
 -- An operand has a mask: this is asked of it.
 abbrev pub ask : ℕ → ℕ → Ask
@@ -74,23 +68,3 @@ Granted (x ∷ xs) M = Within (x .mask) (M (x .operand)) × Granted xs M
 abbrev pub Fit : Design → List Ask → Type 0
 Fit d [] = Unit {0}
 Fit d (x ∷ xs) = (x .operand < d .count) × Within (x .mask) (lowMask (d .at (x .operand) .width)) × Fit d xs
-
--- The asks that the code's struct holds.
-abbrev pub listed : Asks → List Ask
-listed r = take (r .count) (r .first ∷ r .second ∷ r .third ∷ [])
-
--- No bit is asked.
-abbrev pub NoBit : List Ask → Type 0
-NoBit [] = Unit {0}
-NoBit (x ∷ xs) = (x .mask ≡ 0) × NoBit xs
-
--- The code's struct holds just what is asked, or nothing where no bit is.
-abbrev pub Serves : Asks → List Ask → Type 0
-Serves r xs = (listed r ≡ xs) ⊎ ((listed r ≡ []) × NoBit xs)
-
--- The file holds the first two operands of a kind, and they are words of at most 64 bits.
-pub record Readable (file : List ℕ) (kind : Kind) : Type 0 where
-  pub first : recordStart (usesOf kind .a) + recordSize ≤ length file
-  pub second : recordStart (usesOf kind .b) + recordSize ≤ length file
-  pub narrow-first : designOf file .at (usesOf kind .a) .width ≤ maxWidth
-  pub narrow-second : designOf file .at (usesOf kind .b) .width ≤ maxWidth

@@ -19,7 +19,8 @@ ghost use Rattle.bits.specs.Words.{cut, down, lowMasks};
 ghost use Rattle.netlist.specs.Kinds.{usesOf};
 ghost use Rattle.netlist.specs.Layout.{designOf, countOf, recordStart, recordSize};
 ghost use Rattle.netlist.specs.Sound.{Acceptance};
-ghost use Rattle.signal.specs.Asks.{ask, listed, upToHighest, allIfAny, asksOf, asked, Serves, Readable};
+ghost use Rattle.signal.specs.Asks.{ask, upToHighest, allIfAny, asksOf, asked};
+ghost use Rattle.signal.specs.Held.{listed, Serves, Readable};
 
 // A mask that is asked of an operand.
 pub struct Ask {

@@ -1,3 +1,5 @@
+-- `desktop::fill_buffer` meets its contract: the masks are filled into a local list, and its front is written as bytes.
+-- Assumes nothing.
 use mathlib.Core.Path.{sym, ap, subst, _∙_}
 use Prim.Native.Nat.{ℕ, _*_}
 use lib.Seq.{length-take-le}

@@ -1,3 +1,5 @@
+-- `desktop::pcn_masks` meets its contract: the three ends of a call, each as one number and the buffer it leaves.
+-- Assumes nothing.
 use mathlib.Core.Path.{sym, ap, subst, _∙_}
 use Prim.Native.Nat.{ℕ, _*_, _<_, _^_}
 use native.Mathlib.Omega.{arith}
@@ -20,7 +22,7 @@ check-requires : tie.Need-check-requires
 check-requires c κs = tt
 
 enum-known-n : tie.Need-enum-known-n
-enum-known-n c = search needs
+enum-known-n c = c .match .keys1
 
 mul-if1 : tie.Need-mul-if1
 unfolding designOf
@@ -47,7 +49,7 @@ tallied-requires c κs = let a = accepted (now (c .before .before .before .befor
     subst (λ (t : Tally). (t .widths < 2 ^ 31) × (t .ones < 2 ^ 32)) (sym (c .before .before .fill-buffer .ensures .0)) (l .0, let o = l .1 in omega arith)
 
 enum-known-r : tie.Need-enum-known-r
-enum-known-r c = search needs
+enum-known-r c = c .match .keys2
 
 number-requires-2 : tie.Need-number-requires-2
 number-requires-2 c κs = tt

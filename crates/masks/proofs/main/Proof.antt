@@ -1,3 +1,5 @@
+-- `masks::main` is safe: the front of the buffer that it lends is within it.
+-- Assumes nothing.
 use mathlib.Core.Path.{sym}
 use native.Mathlib.Omega.{arith}
 use lib.Seq.{length-take-le}

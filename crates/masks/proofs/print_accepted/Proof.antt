@@ -1,3 +1,5 @@
+-- `masks::print_accepted` is safe: an accepted file has no more records than the local list has words.
+-- Assumes nothing.
 use mathlib.Core.Path.{sym, subst, _∙_}
 use Prim.Native.Nat.{ℕ}
 use lib.Seq.{length-take-le}

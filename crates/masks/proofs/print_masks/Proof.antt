@@ -1,3 +1,5 @@
+-- `masks::print_masks` is safe and ends: there is a word for each record.
+-- Assumes nothing.
 use Prim.Native.Nat.{_-_, _≤_}
 use native.Mathlib.Omega.{arith}
 use denote.Ref.{now}

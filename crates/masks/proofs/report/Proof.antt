@@ -1,3 +1,5 @@
+-- `masks::report` is safe: it prints masks only of a file that check accepts.
+-- Assumes nothing.
 use mathlib.Core.Path.{sym, _∙_}
 use borrow.Author.Needs.{needs}
 use denote.Ref.{now}
@@ -9,13 +11,13 @@ check-requires : tie.Need-check-requires
 check-requires c κs = search needs
 
 enum-known-n : tie.Need-enum-known-n
-enum-known-n c = search needs
+enum-known-n c = c .match .keys1
 
 print-accepted-requires : tie.Need-print-accepted-requires
 print-accepted-requires c κs = accepted (now (c .before .before .before .before .before .args .file)) _ (sym (c .before .before .before .check .ensures) ∙ c .before .n .given .1)
 
 enum-known-r : tie.Need-enum-known-r
-enum-known-r c = search needs
+enum-known-r c = c .match .keys2
 
 print-refusal-requires : tie.Need-print-refusal-requires
 print-refusal-requires c κs = search needs

@@ -1,3 +1,5 @@
+-- `bits::bytes::write_words` meets its contract: after i turns the first i words stand at the front.
+-- Assumes nothing.
 use mathlib.Core.Path.{refl, sym, _∙_}
 use Prim.Native.Nat.{_*_, _-_}
 use native.Mathlib.Nat.{le-refl}

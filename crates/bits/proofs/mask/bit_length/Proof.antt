@@ -1,8 +1,8 @@
 -- `bits::mask::bit_length` meets its contract: the length and the leading zeros make 64.
 -- Assumes nothing.
-use Rattle.bits.proofs.Counts.{length-leading}
-use lib.Count.{leading-le}
 use native.Mathlib.Omega.{arith}
+use lib.Count.{leading-le}
+use Rattle.bits.proofs.Counts.{length-leading}
 use Rattle.bits.proofs.mask.bit_length.Statement.{statement}
 use Rattle.bits.proofs.mask.bit_length.Tie as tie
 

@@ -1,9 +1,9 @@
 -- `bits::mask::count_ones` meets its contract: 64 bits are enough to count the ones of a word.
 -- Assumes nothing.
-use Rattle.bits.proofs.Counts.{onesIn-ones}
-use lib.Count.{ones-le}
-use native.Mathlib.Omega.{arith}
 use mathlib.Core.Path.{sym}
+use native.Mathlib.Omega.{arith}
+use lib.Count.{ones-le}
+use Rattle.bits.proofs.Counts.{onesIn-ones}
 use Rattle.bits.proofs.mask.count_ones.Statement.{statement}
 use Rattle.bits.proofs.mask.count_ones.Tie as tie
 

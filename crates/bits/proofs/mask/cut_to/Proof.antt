@@ -1,9 +1,9 @@
 -- `bits::mask::cut_to` meets its contract: a low mask lets the remainder through, and a word is short of 2^64.
 -- Assumes nothing.
+use mathlib.Core.Path.{ap, _∙_, sym}
+use native.Mathlib.Nat.{mod-eq-of-lt, lt-of-lt-of-le}
 use lib.Bits.{bitAnd, and-mask}
 use lib.Pow.{pow-mono}
-use native.Mathlib.Nat.{mod-eq-of-lt, lt-of-lt-of-le}
-use mathlib.Core.Path.{ap, _∙_, sym}
 use borrow.Author.Needs.{needs}
 use Rattle.bits.proofs.mask.cut_to.Statement.{statement}
 use Rattle.bits.proofs.mask.cut_to.Tie as tie

@@ -1,3 +1,5 @@
+-- `bits::mask::low_entry` meets its contract: the table's entry n is the low mask of n bits.
+-- Assumes nothing.
 use mathlib.Core.List.{List}
 use mathlib.Core.Path.{ap, _∙_}
 use Prim.Native.Nat.{ℕ}

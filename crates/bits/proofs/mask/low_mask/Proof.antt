@@ -1,3 +1,5 @@
+-- `bits::mask::low_mask` meets its contract: a one moved up by n places, less 1.
+-- Assumes nothing.
 use mathlib.Core.Path.{_≡_, sym, ap, subst, _∙_}
 use Prim.Native.Nat.{ℕ, _*_, _-_, _%_, _^_, _≤_, _<_}
 use native.Mathlib.Omega.{arith}

@@ -1,3 +1,5 @@
+-- `bits::mask::low_table` meets its contract: its table is the table of the low masks, which antt computes.
+-- Assumes nothing.
 use mathlib.Core.Path.{refl}
 use Rattle.bits.specs.Words.{lowMasks}
 use Rattle.bits.proofs.mask.low_table.Statement.{statement}

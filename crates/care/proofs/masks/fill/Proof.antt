@@ -1,3 +1,5 @@
+-- `care::masks::fill` meets its contract: the seed, raised to the smallest closed family, and its tally.
+-- Assumes nothing.
 use mathlib.Core.List.{List}
 use mathlib.Core.Path.{sym, ap, subst, _∙_}
 use Prim.Native.Nat.{ℕ}
@@ -5,8 +7,7 @@ use borrow.Author.Needs.{needs}
 use denote.Ref.{now}
 use Rattle.netlist.specs.Layout.{designOf}
 use Rattle.care.proofs.LeastMasks.{seed-fits, masks-fit}
-use Rattle.care.specs.Sweep.{Fits}
-use Rattle.care.specs.Least.{leastAbove, masksOf}
+use Rattle.care.specs.Least.{leastAbove, masksOf, Fits}
 use Rattle.care.specs.Call.{tallyOf}
 use Rattle.care.proofs.masks.fill.Statement.{statement}
 use Rattle.care.proofs.masks.fill.Tie as tie

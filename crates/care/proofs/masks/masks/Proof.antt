@@ -1,3 +1,5 @@
+-- `care::masks::masks` meets its contract: the file is refused, the list is refused, or the masks are filled in.
+-- Assumes nothing.
 use mathlib.Core.Path.{sym, ap, subst, _∙_}
 use Prim.Native.Nat.{ℕ}
 use borrow.Author.Needs.{needs}
@@ -15,7 +17,7 @@ check-requires : tie.Need-check-requires
 check-requires c κs = tt
 
 enum-known-n : tie.Need-enum-known-n
-enum-known-n c = search needs
+enum-known-n c = c .match .keys1
 
 returns : tie.Need-returns
 unfolding masksCall
@@ -26,7 +28,7 @@ fill-requires c κs = let a = accepted (now (c .before .before .before .before .
     (subst (λ (n : ℕ). Acceptance (now (c .before .before .before .before .before .before .before .before .args .file)) n) (a .count) a, c .before .if1 .left ∙ a .count)
 
 enum-known-r : tie.Need-enum-known-r
-enum-known-r c = search needs
+enum-known-r c = c .match .keys2
 
 same-length : tie.Need-same-length
 same-length c = search needs

@@ -1,3 +1,5 @@
+-- `care::masks::seed` meets its contract: after i turns the first i words are the seed's.
+-- Assumes nothing.
 use mathlib.Core.Path.{_≡_, sym, subst, _∙_}
 use Prim.Native.Nat.{ℕ, _-_, _≤_}
 use native.Mathlib.Omega.{arith}

@@ -1,3 +1,5 @@
+-- `care::masks::seed_at` meets its contract: the seed goes by the record's role and width.
+-- Assumes nothing.
 use mathlib.Core.Path.{sym, ap, subst, _∙_}
 use Prim.Native.Nat.{_≤_}
 use denote.Ref.{now}

@@ -1,3 +1,5 @@
+-- `care::masks::seed_of` meets its contract: each role has its line in the definition.
+-- Assumes nothing.
 use Rattle.care.proofs.masks.seed_of.Statement.{statement}
 use Rattle.care.proofs.masks.seed_of.Tie as tie
 

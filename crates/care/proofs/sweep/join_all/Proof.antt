@@ -1,3 +1,5 @@
+-- `care::sweep::join_all` meets its contract: the asks are joined one after the other, as many as there are.
+-- Assumes nothing.
 use mathlib.Core.List.{List, [], _∷_}
 use mathlib.Core.Path.{_≡_, sym, ap, ap₂, subst, _∙_}
 use Prim.Native.Nat.{ℕ, _<_}
@@ -8,8 +10,8 @@ use Rattle.signal.specs.declared.asks.Asks.{Asks}
 use Rattle.signal.specs.declared.asks.Ask.{Ask}
 use Rattle.care.proofs.ListedAsks.{three-of, named-first, named-second, named-third}
 use Rattle.care.proofs.Families.{length-joined}
-use Rattle.care.specs.Sweep.{joined, markFor, marksOf}
-use Rattle.care.specs.Least.{grant}
+use Rattle.care.specs.Sweep.{markFor, marksOf}
+use Rattle.care.specs.Least.{grant, joined}
 use Rattle.care.proofs.sweep.join_all.Statement.{statement}
 use Rattle.care.proofs.sweep.join_all.Tie as tie
 

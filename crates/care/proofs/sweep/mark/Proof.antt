@@ -1,3 +1,5 @@
+-- `care::sweep::mark` meets its contract: each part of the test that fails leaves the mark as it was.
+-- Assumes nothing.
 use mathlib.Core.Bool.{Bool, cond, not, _&&_, and-false}
 use mathlib.Core.Path.{_≡_, sym, ap, _∙_}
 use Prim.Native.Nat.{ℕ, suc, _+_, _<_, _≤_}

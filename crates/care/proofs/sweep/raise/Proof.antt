@@ -1,3 +1,5 @@
+-- `care::sweep::raise` meets its contract: each sweep stays between the list and every closed family above it, until all is settled.
+-- Assumes nothing.
 use mathlib.Core.Path.{ap, sym, _∙_}
 use Prim.Native.Nat.{_-_, _≤_}
 use native.Mathlib.Omega.{arith}

@@ -1,3 +1,5 @@
+-- `care::tally::tally_of` meets its contract: after i turns both sums run over the first i records.
+-- Assumes nothing.
 use mathlib.Core.Path.{_≡_, refl, ap₂, subst}
 use Prim.Native.Nat.{ℕ, _-_, _≤_, _<_}
 use native.Mathlib.Omega.{arith}

@@ -1,3 +1,5 @@
+-- `signal::asks::all_if_any` meets its contract: the test for 0 is the definition's.
+-- Assumes nothing.
 use mathlib.Core.Bool.{Bool, cond}
 use mathlib.Core.Path.{sym, ap, _∙_}
 use borrow.Author.Tests.{eq-eqb, ne-eqb}

@@ -1,3 +1,5 @@
+-- `signal::asks::asked` meets its contract: no bit is asked where a quiet record has D 0, and else the kind's line holds.
+-- Assumes nothing.
 use mathlib.Core.Logic.{inl, inr}
 use mathlib.Core.Path.{sym, ap, subst, _∙_}
 use Prim.Native.Nat.{ℕ}
@@ -6,9 +8,10 @@ use borrow.Author.Tests.{ltb-true}
 use denote.Ref.{now}
 use Rattle.netlist.specs.declared.record.Record.{Record}
 use Rattle.netlist.specs.Layout.{designOf, recordAt}
-use Rattle.signal.specs.Asks.{asked, asksOf, Readable, NoBit}
-use Rattle.signal.proofs.RuleLaws.{asks-quiet}
 use Rattle.netlist.proofs.Acceptance.{holds-record}
+use Rattle.signal.specs.Asks.{asked, asksOf}
+use Rattle.signal.specs.Held.{Readable, NoBit}
+use Rattle.signal.proofs.RuleLaws.{asks-quiet}
 use Rattle.signal.proofs.Reading.{readable}
 use Rattle.signal.proofs.asks.asked.Statement.{statement}
 use Rattle.signal.proofs.asks.asked.Tie as tie

@@ -1,3 +1,5 @@
+-- `signal::asks::is_quiet` meets its contract: the count of operands is what the kind uses.
+-- Assumes nothing.
 use mathlib.Core.Path.{ap, _∙_}
 use lib.Dec.{ltb}
 use Rattle.netlist.specs.declared.record.Uses.{Uses}

@@ -1,3 +1,5 @@
+-- `signal::asks::of_carries` meets its contract: both operands are asked for the same bits.
+-- Assumes nothing.
 use Rattle.signal.proofs.asks.of_carries.Statement.{statement}
 use Rattle.signal.proofs.asks.of_carries.Tie as tie
 

@@ -1,3 +1,5 @@
+-- `signal::asks::of_comparison` meets its contract: each operand is asked by its own width.
+-- Assumes nothing.
 use borrow.Author.Needs.{needs}
 use Rattle.signal.proofs.asks.of_comparison.Statement.{statement}
 use Rattle.signal.proofs.asks.of_comparison.Tie as tie

@@ -1,3 +1,5 @@
+-- `signal::asks::of_concat` meets its contract: the high part of D goes to a, the low part to b.
+-- Assumes nothing.
 use borrow.Author.Needs.{needs}
 use Rattle.signal.proofs.asks.of_concat.Statement.{statement}
 use Rattle.signal.proofs.asks.of_concat.Tie as tie

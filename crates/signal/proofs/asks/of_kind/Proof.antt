@@ -1,9 +1,11 @@
+-- `signal::asks::of_kind` meets its contract: each kind has its line in the definition.
+-- Assumes nothing.
 use mathlib.Core.Path.{sym, subst}
 use Prim.Native.Nat.{ℕ, _≤_}
 use denote.Ref.{now}
 use Rattle.netlist.specs.declared.record.Kind.{Kind}
 use Rattle.netlist.specs.Layout.{designOf, recordAt}
-use Rattle.signal.specs.Asks.{Readable}
+use Rattle.signal.specs.Held.{Readable}
 use Rattle.signal.proofs.asks.of_kind.Statement.{statement}
 use Rattle.signal.proofs.asks.of_kind.Tie as tie
 

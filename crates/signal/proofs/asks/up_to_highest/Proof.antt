@@ -1,3 +1,5 @@
+-- `signal::asks::up_to_highest` meets its contract: the table's entry for the length of D.
+-- Assumes nothing.
 use mathlib.Core.Path.{sym, ap, subst, _∙_}
 use Prim.Native.Nat.{ℕ, _≤_}
 use Rattle.bits.specs.Words.{lowMask}
