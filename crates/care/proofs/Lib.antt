@@ -8,3 +8,4 @@ pub mod ListedAsks
 pub mod TallyLaws
 pub mod CallLaws
 pub mod LentList
+pub mod Promises

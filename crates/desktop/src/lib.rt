@@ -29,7 +29,7 @@ fn refused(number: u64, at: u64) -> u64
 
 // The answer of a call that gives a tally: the sum of widths from bit 32 on, and the count of ones.
 fn tallied(tally: Tally) -> u64
-    requires { ⌜ (tally .widths < 2 ^ 31) × (tally .ones < 2 ^ 32) ⌝ }
+    requires { ⌜ (tally .widths < 2 ^ 31) × (tally .ones < 2 ^ 31) ⌝ }
     ensures { λ r. ⌜ r ≡ tallyAnswer tally ⌝ }
 {
     4294967296 * tally.widths + tally.ones

@@ -36,17 +36,17 @@ refused-requires c κs = (c .number .ensures .1, lit< tt)
 
 returns : tie.Need-returns
 unfolding talliedAnswer masksBuffer
-returns c = let b = both-of _ _ (call-bad-list (λ n. 8 * n) (now (c .before .before .before .before .before .before .before .before .before .args .file)) (fillBuffer (designOf (now (c .before .before .before .before .before .before .before .before .before .args .file)))) (now (c .before .before .before .before .before .before .before .before .before .args .masks)) (sym (c .before .before .before .before .before .before .check .ensures) ∙ c .before .before .before .before .n .given .1) (c .before .before .if1 .taken)) in
+returns c = let b = both-of _ _ (call-bad-list (λ n. 8 * n) (now (c .before .before .before .before .before .before .before .before .before .args .file)) (fillBuffer (designOf (now (c .before .before .before .before .before .before .before .before .before .args .file)))) (now (c .before .before .before .before .before .before .before .before .before .args .masks)) (sym (c .before .before .before .before .before .before .check .ensures) ∙ c .before .before .before .before .n .given .1) (λ q. let t = c .before .before .if1 .taken in omega arith)) in
     (c .refused .ensures ∙ ap (λ (n : ℕ). refusedAnswer n 0) (c .before .number .ensures .0) ∙ ap talliedAnswer (b .0), b .1)
 
 fill-buffer-requires : tie.Need-fill-buffer-requires
-fill-buffer-requires c κs = (accepted (now (c .before .before .before .before .before .before .before .before .args .file)) _ (sym (c .before .before .before .before .before .check .ensures) ∙ c .before .before .before .n .given .1), c .before .if1 .left)
+fill-buffer-requires c κs = (accepted (now (c .before .before .before .before .before .before .before .before .args .file)) _ (sym (c .before .before .before .before .before .check .ensures) ∙ c .before .before .before .n .given .1), let t = c .before .if1 .left in omega arith)
 
 tallied-requires : tie.Need-tallied-requires
 tallied-requires c κs = let a = accepted (now (c .before .before .before .before .before .before .before .before .before .before .before .args .file)) _ (sym (c .before .before .before .before .before .before .before .before .check .ensures) ∙ c .before .before .before .before .before .before .n .given .1) in
     let d = designOf (now (c .before .before .before .before .before .before .before .before .before .before .before .args .file)) in
     let l = tally-low d (a .sound) (masksOf d) (masks-fit d (a .sound)) in
-    subst (λ (t : Tally). (t .widths < 2 ^ 31) × (t .ones < 2 ^ 32)) (sym (c .before .before .fill-buffer .ensures .0)) (l .0, let o = l .1 in omega arith)
+    subst (λ (t : Tally). (t .widths < 2 ^ 31) × (t .ones < 2 ^ 31)) (sym (c .before .before .fill-buffer .ensures .0)) l
 
 enum-known-r : tie.Need-enum-known-r
 enum-known-r c = c .match .keys2
@@ -62,7 +62,7 @@ same-length c = search needs
 
 returns-2 : tie.Need-returns-2
 unfolding talliedAnswer masksBuffer
-returns-2 c = let b = both-of _ _ (call-filled (λ n. 8 * n) (now (c .before .before .before .before .before .before .before .before .before .before .before .before .args .file)) (fillBuffer (designOf (now (c .before .before .before .before .before .before .before .before .before .before .before .before .args .file)))) (now (c .before .before .before .before .before .before .before .before .before .before .before .before .args .masks)) (sym (c .before .before .before .before .before .before .before .before .before .check .ensures) ∙ c .before .before .before .before .before .before .before .n .given .1) (c .before .before .before .before .before .if1 .left)) in
+returns-2 c = let b = both-of _ _ (call-filled (λ n. 8 * n) (now (c .before .before .before .before .before .before .before .before .before .before .before .before .args .file)) (fillBuffer (designOf (now (c .before .before .before .before .before .before .before .before .before .before .before .before .args .file)))) (now (c .before .before .before .before .before .before .before .before .before .before .before .before .args .masks)) (sym (c .before .before .before .before .before .before .before .before .before .check .ensures) ∙ c .before .before .before .before .before .before .before .n .given .1) (let t = c .before .before .before .before .before .if1 .left in omega arith)) in
     (c .tallied .ensures ∙ ap tallyAnswer (c .before .before .before .fill-buffer .ensures .0) ∙ ap talliedAnswer (b .0), c .before .before .before .fill-buffer .ensures .1 ∙ b .1)
 
 returns-3 : tie.Need-returns-3

@@ -17,10 +17,10 @@ shl-result : tie.Need-shl-result
 shl-result c = search needs
 
 sub-result : tie.Need-sub-result
-sub-result c = subst (λ (m : ℕ). 1 ≤ m) (sym (moved-one (c .before .args .n) (c .if1 .taken))) (pow-pos (c .before .args .n))
+sub-result c = subst (λ (m : ℕ). 1 ≤ m) (sym (moved-one (c .before .args .n) (let h = c .if1 .taken in omega arith))) (pow-pos (c .before .args .n))
 
 returns : tie.Need-returns
-returns c = ap (λ (m : ℕ). m - 1) (moved-one (c .before .args .n) (c .if1 .taken))
+returns c = ap (λ (m : ℕ). m - 1) (moved-one (c .before .args .n) (let h = c .if1 .taken in omega arith))
 
 returns-2 : tie.Need-returns-2
 returns-2 c = ap (λ (n : ℕ). 2 ^ n - 1) (let h = c .if1 .left in let p = c .before .pre in let e : 64 ≡ c .before .args .n = omega arith in e)

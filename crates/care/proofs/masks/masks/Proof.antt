@@ -2,6 +2,7 @@
 -- Assumes nothing.
 use mathlib.Core.Path.{sym, ap, subst, _∙_}
 use Prim.Native.Nat.{ℕ}
+use native.Mathlib.Omega.{arith}
 use borrow.Author.Needs.{needs}
 use denote.Ref.{now}
 use Rattle.netlist.specs.Layout.{designOf}
@@ -21,11 +22,11 @@ enum-known-n c = c .match .keys1
 
 returns : tie.Need-returns
 unfolding masksCall
-returns c = both-of _ _ (call-bad-list (λ n. n) (now (c .before .before .before .before .before .before .before .args .file)) (fillMasks (designOf (now (c .before .before .before .before .before .before .before .args .file)))) (now (c .before .before .before .before .before .before .before .args .list)) (sym (c .before .before .before .before .check .ensures) ∙ c .before .before .n .given .1) (c .if1 .taken))
+returns c = both-of _ _ (call-bad-list (λ n. n) (now (c .before .before .before .before .before .before .before .args .file)) (fillMasks (designOf (now (c .before .before .before .before .before .before .before .args .file)))) (now (c .before .before .before .before .before .before .before .args .list)) (sym (c .before .before .before .before .check .ensures) ∙ c .before .before .n .given .1) (λ q. let t = c .if1 .taken in omega arith))
 
 fill-requires : tie.Need-fill-requires
 fill-requires c κs = let a = accepted (now (c .before .before .before .before .before .before .before .before .args .file)) _ (sym (c .before .before .before .before .before .check .ensures) ∙ c .before .before .before .n .given .1) in
-    (subst (λ (n : ℕ). Acceptance (now (c .before .before .before .before .before .before .before .before .args .file)) n) (a .count) a, c .before .if1 .left ∙ a .count)
+    (subst (λ (n : ℕ). Acceptance (now (c .before .before .before .before .before .before .before .before .args .file)) n) (a .count) a, let t = c .before .if1 .left in let e = a .count in omega arith)
 
 enum-known-r : tie.Need-enum-known-r
 enum-known-r c = c .match .keys2
@@ -35,7 +36,7 @@ same-length c = search needs
 
 returns-2 : tie.Need-returns-2
 unfolding masksCall
-returns-2 c = let b = both-of _ _ (call-filled (λ n. n) (now (c .before .before .before .before .before .before .before .before .before .before .before .args .file)) (fillMasks (designOf (now (c .before .before .before .before .before .before .before .before .before .before .before .args .file)))) (now (c .before .before .before .before .before .before .before .before .before .before .before .args .list)) (sym (c .before .before .before .before .before .before .before .before .check .ensures) ∙ c .before .before .before .before .before .before .n .given .1) (c .before .before .before .before .if1 .left)) in
+returns-2 c = let b = both-of _ _ (call-filled (λ n. n) (now (c .before .before .before .before .before .before .before .before .before .before .before .args .file)) (fillMasks (designOf (now (c .before .before .before .before .before .before .before .before .before .before .before .args .file)))) (now (c .before .before .before .before .before .before .before .before .before .before .before .args .list)) (sym (c .before .before .before .before .before .before .before .before .check .ensures) ∙ c .before .before .before .before .before .before .n .given .1) (let t = c .before .before .before .before .if1 .left in omega arith)) in
     (ap Done (c .before .before .fill .ensures .0) ∙ b .0, c .before .before .fill .ensures .1 ∙ b .1)
 
 returns-3 : tie.Need-returns-3

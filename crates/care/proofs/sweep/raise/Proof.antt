@@ -40,7 +40,7 @@ sweep-requires : tie.Need-sweep-requires Inv-loop μ-loop
 sweep-requires c κs = (c .before .before .loop .inv .0, c .before .before .before .low-table .ensures)
 
 loop-less : tie.Need-loop-less Inv-loop μ-loop
-loop-less c = let r = c .before .before .before .before .before .before .loop .inv .0 in uncared-less (designOf (now (c .before .before .before .before .before .before .before .before .before .before .args .file))) (r .accepted .sound) _ _ _ (r .fits) (c .before .before .before .sweep .ensures) (c .if1 .left)
+loop-less c = let r = c .before .before .before .before .before .before .loop .inv .0 in uncared-less (designOf (now (c .before .before .before .before .before .before .before .before .before .before .args .file))) (r .accepted .sound) _ _ _ (r .fits) (c .before .before .before .sweep .ensures) (λ z. let t = c .if1 .left in omega arith)
 
 loop-again : tie.Need-loop-again Inv-loop μ-loop
 unfolding designOf
