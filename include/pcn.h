@@ -89,7 +89,8 @@ enum pcn_refusal {
    What callers may rely on: the functions change no byte but those of the
    mask list, allocate nothing and keep no state between calls, so several
    threads may call them at the same time, also for the same file, each with
-   a mask list of its own. A refused call changes no byte at all. */
+   a mask list of its own. A refused call changes no byte at all. pcn_masks
+   takes about 17,000 bytes of the stack. */
 
 /* Checks a netlist file. Accepted: the answer is the count of records. */
 uint64_t pcn_check(const uint8_t *file, size_t length);
