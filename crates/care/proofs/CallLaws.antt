@@ -6,11 +6,11 @@ use mathlib.Core.List.{List}
 use Prim.Native.Nat.{ℕ}
 use lib.ListN.{length}
 use borrow.Author.Tests.{eq-eqb, ne-eqb}
-use Rattle.netlist.specs.Check.{checkOf}
-use Rattle.netlist.specs.declared.check.Checked.{Checked}
-use Rattle.netlist.specs.declared.check.Checked.the-variants.{Accepted, Refused}
 use Rattle.netlist.specs.declared.refusal.Refusal.{Refusal}
 use Rattle.netlist.specs.declared.refusal.Refusal.the-variants.{BadList}
+use Rattle.rules.specs.Check.{checkOf}
+use Rattle.rules.specs.declared.check.Checked.{Checked}
+use Rattle.rules.specs.declared.check.Checked.the-variants.{Accepted, Refused}
 use Rattle.care.specs.Call.{MasksCall, refuse, callAfter}
 
 module _ (size : ℕ → ℕ) (file : List ℕ) (filled : MasksCall) (list : List ℕ) where

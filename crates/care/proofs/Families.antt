@@ -14,10 +14,10 @@ use Rattle.bits.specs.Masks.{Within}
 use Rattle.bits.specs.Words.{lowMask}
 use Rattle.bits.proofs.Order.{within-refl, within-trans, join-left, join-right, join-least}
 use Rattle.netlist.specs.Layout.{Design}
-use Rattle.netlist.specs.Sound.{Sound}
 use Rattle.signal.specs.Asks.{Granted, Fit, asked}
 use Rattle.signal.specs.declared.asks.Ask.{Ask}
 use Rattle.signal.proofs.RuleLaws.{asked-fit}
+use Rattle.rules.specs.Sound.{Sound}
 use Rattle.care.specs.Least.{Closed, maskAt, grant, joined}
 use Rattle.care.specs.Sweep.{Named}
 

@@ -16,11 +16,12 @@ use Rattle.bits.specs.Words.{lowMask, countOnes}
 use Rattle.bits.proofs.Growth.{countOnes-mono, countOnes-le, growth}
 use Rattle.bits.proofs.ListLaws.{length-words, word-at, sum-mono, sum-same}
 use Rattle.bits.proofs.Order.{within-refl, within-antisym, within-zero, low-within}
-use Rattle.netlist.specs.Check.{isOutput, roleAt}
+use Rattle.netlist.specs.Kinds.{isOutput}
 use Rattle.netlist.specs.Layout.{Design}
-use Rattle.netlist.specs.Sound.{Sound}
-use Rattle.netlist.proofs.SoundLaws.{word-64}
 use Rattle.signal.specs.Asks.{asked}
+use Rattle.rules.specs.Check.{roleAt}
+use Rattle.rules.specs.Sound.{Sound}
+use Rattle.rules.proofs.SoundLaws.{word-64}
 use Rattle.care.specs.Least.{Closed, Least, maskAt, outputSeed, roundTo, widthSum, onesSum, settle, leastAbove, masksOf, Fits}
 use Rattle.care.specs.Sweep.{Between, Settled}
 use Rattle.care.proofs.Families.{Inside, inside-refl, inside-trans, granted-more, below-or-not, allBits, all-closed}

@@ -7,9 +7,9 @@ use native.Mathlib.Omega.{arith}
 use lib.ListN.{length, take}
 use lib.Seq.{take-at}
 use Rattle.bits.proofs.ListLaws.{length-append}
-use Rattle.netlist.specs.Check.{maxCount}
+use Rattle.netlist.specs.Limits.{maxCount}
 use Rattle.netlist.specs.Layout.{designOf}
-use Rattle.netlist.specs.Sound.{Acceptance}
+use Rattle.rules.specs.Sound.{Acceptance}
 use Rattle.care.specs.Least.{masksOf}
 use Rattle.care.proofs.LeastMasks.{masks-fit}
 

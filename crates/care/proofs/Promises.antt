@@ -7,13 +7,13 @@ use Prim.Native.Nat.{ℕ}
 use native.Mathlib.Omega.{arith}
 use lib.Dec.{eqb}
 use lib.ListN.{length}
-use Rattle.netlist.specs.Check.{checkOf}
 use Rattle.netlist.specs.Layout.{designOf}
-use Rattle.netlist.specs.declared.check.Checked.{Checked}
-use Rattle.netlist.specs.declared.check.Checked.the-variants.{Accepted, Refused}
 use Rattle.netlist.specs.declared.refusal.Refusal.{Refusal}
 use Rattle.netlist.specs.declared.refusal.Refusal.the-variants.{BadList}
-use Rattle.netlist.proofs.Acceptance.{accepted}
+use Rattle.rules.specs.Check.{checkOf}
+use Rattle.rules.specs.declared.check.Checked.{Checked}
+use Rattle.rules.specs.declared.check.Checked.the-variants.{Accepted, Refused}
+use Rattle.rules.proofs.Acceptance.{accepted}
 use Rattle.care.specs.Call.{MasksCall, tallyOf, refuse, fillMasks, callAfter, masksCall}
 use Rattle.care.specs.Least.{Least, outputSeed, maskAt}
 use Rattle.care.specs.declared.tally.Tally.{Tally}

@@ -13,12 +13,12 @@ use lib.ListN.{length, set}
 use lib.Seq.{set-getD}
 use borrow.Author.Tests.{eq-eqb, eqb-false, leb-true, not-true, le-leb, ne-eqb}
 use Rattle.netlist.specs.Layout.{Design}
-use Rattle.netlist.specs.Sound.{Sound}
 use Rattle.netlist.proofs.Tests.{and-first, and-second}
 use Rattle.signal.specs.Asks.{Granted, asked}
 use Rattle.signal.specs.Held.{listed, NoBit, Serves}
 use Rattle.signal.specs.declared.asks.Ask.{Ask}
 use Rattle.signal.specs.declared.asks.Asks.{Asks}
+use Rattle.rules.specs.Sound.{Sound}
 use Rattle.care.specs.Least.{maskAt, grant, widthSum, onesSum, Fits, joined}
 use Rattle.care.specs.Sweep.{Named, markOf, markFor, marksOf, Between, Settled, Swept}
 use Rattle.care.proofs.Families.{Inside, inside-refl, inside-trans, granted-more, same-or-not, below-or-not, joined-same, joined-other, joined-above, joined-least, length-joined, still-named, length-grant, grant-above, grant-granted, grant-least, allBits, all-closed}

@@ -10,9 +10,9 @@ use Rattle.bits.specs.Words.{countOnes}
 use Rattle.bits.proofs.Growth.{countOnes-le}
 use Rattle.bits.proofs.ListLaws.{sum-bound, sum-next}
 use Rattle.bits.proofs.Order.{low-within}
-use Rattle.netlist.specs.Check.{maxWidth}
+use Rattle.netlist.specs.Limits.{maxWidth}
 use Rattle.netlist.specs.Layout.{Design}
-use Rattle.netlist.specs.Sound.{Sound}
+use Rattle.rules.specs.Sound.{Sound}
 use Rattle.care.specs.Least.{maskAt, widthSum, onesSum, Fits}
 
 -- the sums over the records below i

@@ -5,12 +5,12 @@ use mathlib.Core.List.{List}
 use Prim.Native.Nat.{ℕ}
 use lib.Dec.{eqb}
 use lib.ListN.{length}
-use Rattle.netlist.specs.Check.{checkOf}
 use Rattle.netlist.specs.Layout.{Design, designOf}
-use Rattle.netlist.specs.declared.check.Checked.{Checked}
-use Rattle.netlist.specs.declared.check.Checked.the-variants.{Accepted, Refused}
 use Rattle.netlist.specs.declared.refusal.Refusal.{Refusal}
 use Rattle.netlist.specs.declared.refusal.Refusal.the-variants.{BadList}
+use Rattle.rules.specs.Check.{checkOf}
+use Rattle.rules.specs.declared.check.Checked.{Checked}
+use Rattle.rules.specs.declared.check.Checked.the-variants.{Accepted, Refused}
 use Rattle.care.specs.Least.{widthSum, onesSum, masksOf}
 use Rattle.care.specs.declared.tally.Tally.{Tally}
 use Rattle.care.specs.declared.tally.Tallied.{Tallied}

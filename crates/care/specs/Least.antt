@@ -10,11 +10,12 @@ use lib.ListN.{length, getD, set}
 use Rattle.bits.specs.Lists.{wordsOf, sumTo}
 use Rattle.bits.specs.Masks.{Within}
 use Rattle.bits.specs.Words.{lowMask, countOnes}
-use Rattle.netlist.specs.Check.{isOutput, roleAt}
+use Rattle.netlist.specs.Kinds.{isOutput}
 use Rattle.netlist.specs.Layout.{Design}
 use Rattle.netlist.specs.declared.record.Role.{Role}
 use Rattle.signal.specs.Asks.{asked, Granted}
 use Rattle.signal.specs.declared.asks.Ask.{Ask}
+use Rattle.rules.specs.Check.{roleAt}
 
 -- A family M has every bit of a seed, and every bit that a record asks for under M.
 pub record Closed (d : Design) (seed M : ℕ → ℕ) : Type 0 where

@@ -9,9 +9,9 @@ use lib.Dec.{eqb, leb}
 use lib.ListN.{length}
 use Rattle.bits.specs.Masks.{Within}
 use Rattle.netlist.specs.Layout.{Design, designOf, countOf}
-use Rattle.netlist.specs.Sound.{Acceptance}
 use Rattle.signal.specs.Asks.{asked, Granted}
 use Rattle.signal.specs.declared.asks.Ask.{Ask}
+use Rattle.rules.specs.Sound.{Acceptance}
 use Rattle.care.specs.Least.{Closed, Fits, maskAt, joined, onesSum}
 
 -- Each ask names one of n records.

@@ -9,7 +9,7 @@ ghost use Prim.Native.Nat.{_+_, _<_, _^_};
 ghost use lib.ListN.{length};
 ghost use Rattle.bits.specs.Words.{lowMasks};
 ghost use Rattle.netlist.specs.Layout.{designOf, countOf};
-ghost use Rattle.netlist.specs.Sound.{Acceptance};
+ghost use Rattle.rules.specs.Sound.{Acceptance};
 ghost use Rattle.signal.specs.Held.{listed};
 ghost use Rattle.care.specs.Least.{grant, leastAbove, Fits, joined};
 ghost use Rattle.care.specs.Sweep.{Named, markOf, markFor, marksOf, Ready, Swept};

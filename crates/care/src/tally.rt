@@ -5,9 +5,9 @@ use netlist::layout::width_at;
 use netlist::refusal::Refusal;
 ghost use mathlib.Core.Path.{_≡_};
 ghost use Rattle.netlist.specs.Layout.{designOf, countOf};
-ghost use Rattle.netlist.specs.Sound.{Acceptance};
-ghost use Rattle.care.specs.Least.{Fits};
+ghost use Rattle.rules.specs.Sound.{Acceptance};
 ghost use Rattle.care.specs.Call.{tallyOf};
+ghost use Rattle.care.specs.Least.{Fits};
 
 // The sum of all widths, and the count of ones over all masks.
 pub struct Tally {

@@ -1,12 +1,12 @@
 -- The 64-bit number that each call of the desktop gives.
 -- Assumes nothing.
 use Prim.Native.Nat.{ℕ, _+_, _*_, _^_}
+use Rattle.netlist.specs.Refusals.{numberOf}
 use Rattle.care.specs.declared.tally.Tally.{Tally}
 use Rattle.care.specs.declared.tally.Tallied.{Tallied}
 use Rattle.care.specs.declared.tally.Tallied.the-variants.{Done, Refused}
-use Rattle.netlist.specs.Check.{numberOf}
-use Rattle.netlist.specs.declared.check.Checked.{Checked}
-use Rattle.netlist.specs.declared.check.Checked.the-variants.{Accepted, Refused as refused}
+use Rattle.rules.specs.declared.check.Checked.{Checked}
+use Rattle.rules.specs.declared.check.Checked.the-variants.{Accepted, Refused as refused}
 
 -- "when refused, 2^63 + 2^32 × the refusal number + the record"
 abbrev pub refusedAnswer : ℕ → ℕ → ℕ

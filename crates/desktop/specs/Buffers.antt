@@ -3,11 +3,11 @@
 use mathlib.Core.List.{List}
 use Prim.Native.Nat.{ℕ, _*_}
 use Rattle.bits.specs.Bytes.{wordBytes}
+use Rattle.netlist.specs.Layout.{Design, designOf}
 use Rattle.care.specs.Call.{MasksCall, tallyOf, callAfter}
 use Rattle.care.specs.Least.{masksOf}
 use Rattle.care.specs.declared.tally.Tallied.the-variants.{Done}
-use Rattle.netlist.specs.Check.{checkOf}
-use Rattle.netlist.specs.Layout.{Design, designOf}
+use Rattle.rules.specs.Check.{checkOf}
 
 -- An accepted call of masks: the tally, and the masks as bytes.
 abbrev pub fillBuffer : Design → MasksCall

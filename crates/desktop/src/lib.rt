@@ -3,19 +3,19 @@
 use bits::bytes::write_words;
 use care::masks::fill;
 use care::tally::Tally;
-use netlist::check::Checked;
-use netlist::check::check;
 use netlist::record::Record;
 use netlist::refusal::Refusal;
+use rules::check::Checked;
+use rules::check::check;
 ghost use mathlib.Core.Path.{_≡_};
 ghost use Prim.Native.Nat.{_*_, _<_, _^_};
 ghost use lib.ListN.{length};
 ghost use Rattle.bits.specs.Bytes.{wordBytes};
+ghost use Rattle.netlist.specs.Layout.{designOf};
+ghost use Rattle.rules.specs.Check.{checkOf};
+ghost use Rattle.rules.specs.Sound.{Acceptance};
 ghost use Rattle.care.specs.Call.{tallyOf};
 ghost use Rattle.care.specs.Least.{masksOf};
-ghost use Rattle.netlist.specs.Check.{checkOf};
-ghost use Rattle.netlist.specs.Layout.{designOf, countOf};
-ghost use Rattle.netlist.specs.Sound.{Acceptance};
 ghost use Rattle.desktop.specs.Answer.{refusedAnswer, tallyAnswer, talliedAnswer, checkAnswer};
 ghost use Rattle.desktop.specs.Buffers.{masksBuffer};
 

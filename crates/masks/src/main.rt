@@ -4,17 +4,17 @@ use care::masks::fill;
 use care::tally::Tally;
 use libc::STDIN_FILENO;
 use libc::STDOUT_FILENO;
-use netlist::check::Checked;
-use netlist::check::check;
 use netlist::layout::HEADER;
 use netlist::layout::RECORD;
 use netlist::layout::width_at;
 use netlist::record::Record;
 use netlist::refusal::Refusal;
+use rules::check::Checked;
+use rules::check::check;
 ghost use mathlib.Core.Path.{_≡_};
 ghost use lib.ListN.{length};
 ghost use Rattle.netlist.specs.Layout.{countOf};
-ghost use Rattle.netlist.specs.Sound.{Acceptance};
+ghost use Rattle.rules.specs.Sound.{Acceptance};
 
 // One byte more than the longest file: enough to refuse what is longer.
 const INPUT: usize = HEADER + RECORD * Record::MAX_COUNT + 1;

@@ -9,7 +9,8 @@ use lib.Dec.{eqb, lit<}
 use lib.ListN.{getD, drop, replicate, List·getD-eq-default, List·getD-map}
 use Rattle.bits.specs.Lists.{wordsOf, wordsFrom}
 use Rattle.bits.proofs.ListLaws.{word-at}
-use Rattle.netlist.specs.Check.{isOutput, operandsOf, kindCount}
+use Rattle.netlist.specs.Kinds.{isOutput, operandsOf}
+use Rattle.netlist.specs.Limits.{kindCount}
 use Rattle.netlist.specs.Kinds.{kinds, kindOf, codeOf, usesOf}
 use Rattle.netlist.specs.declared.record.Fields.{Fields}
 use Rattle.netlist.specs.declared.record.Kind.{Kind}

@@ -1,8 +1,9 @@
 -- All that is said of a kind: its number, the fields it uses, its role in a design, its width rule.
 -- Assumes nothing.
+use mathlib.Core.Bool.{Bool, true, false}
 use mathlib.Core.List.{List, [], _∷_}
 use Prim.Native.Nat.{ℕ, _+_}
-use lib.ListN.{getD}
+use lib.ListN.{getD, take}
 use Rattle.netlist.specs.Rules.{Rule, equal, atMost}
 use Rattle.netlist.specs.declared.record.Fields.{Fields}
 use Rattle.netlist.specs.declared.record.Uses.{Uses}
@@ -102,3 +103,14 @@ widthRules (Sub a b) w wa wb wc = equal wa w ∷ equal wb w ∷ []
 widthRules (Mul a b) w wa wb wc = equal wa w ∷ equal wb w ∷ []
 widthRules (Equal a b) w wa wb wc = equal wa wb ∷ equal w 1 ∷ []
 widthRules (Below a b) w wa wb wc = equal wa wb ∷ equal w 1 ∷ []
+
+-- Which role is an output.
+abbrev pub isOutput : Role → Bool
+isOutput input = false
+isOutput (register a k) = false
+isOutput output = true
+isOutput gate = false
+
+-- The operands that a kind uses.
+unfoldable pub operandsOf : Uses → List ℕ
+operandsOf u = take (u .count) (u .a ∷ u .b ∷ u .c ∷ [])

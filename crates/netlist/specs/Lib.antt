@@ -1,8 +1,7 @@
--- What a netlist file says, when it is accepted, and what acceptance says of the design.
+-- What a netlist file says: kinds, records, their places, the limits, and the numbers of the refusals.
 -- Assumes nothing.
-pub mod Check
-pub mod Encode
 pub mod Kinds
 pub mod Layout
+pub mod Limits
+pub mod Refusals
 pub mod Rules
-pub mod Sound

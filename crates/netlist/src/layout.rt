@@ -8,8 +8,6 @@ ghost use mathlib.Core.Path.{_≡_};
 ghost use Prim.Native.Nat.{_+_, _*_, _≤_, _<_, _^_};
 ghost use lib.ListN.{length};
 ghost use Rattle.netlist.specs.Layout.{headerSize, recordSize, recordStart, countOf, versionOf, codeAt, widthAt, fieldsAt, keepAt, recordAt};
-ghost use Rattle.netlist.specs.Check.{markRules};
-ghost use Rattle.netlist.specs.Rules.{testAll};
 
 // The sizes of the header and of a record, in bytes.
 pub const HEADER: usize = 8;
@@ -87,12 +85,4 @@ pub fn record_at(file: &[u8], i: usize) -> Record
         fields,
         keep_at(file, i),
     )
-}
-
-// The mark `PCN`, and the zero byte after the version.
-pub fn marked(file: &[u8]) -> bool
-    requires { ⌜ headerSize ≤ length (now file) ⌝ }
-    ensures { λ r. ⌜ r ≡ testAll (markRules (now (file .entry))) ⌝ }
-{
-    file[0] == 0x50 && (file[1] == 0x43 && (file[2] == 0x4e && file[5] == 0))
 }

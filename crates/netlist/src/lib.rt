@@ -1,7 +1,5 @@
-// The netlist file: what a record is, where it stands in the file, and the check of all rules.
-// The operation is `check::check`; it asks nothing of its caller.
-pub mod check;
+// The netlist file: what a record is, where it stands in the file, and the numbers of the refusals.
+// When a file is accepted is said in the crate `rules`.
 pub mod layout;
 pub mod record;
 pub mod refusal;
-pub mod rules;

@@ -2,7 +2,7 @@
 // Nothing is asked of a caller.
 ghost use mathlib.Core.Path.{_≡_};
 ghost use Prim.Native.Nat.{_<_};
-ghost use Rattle.netlist.specs.Check.{numberOf};
+ghost use Rattle.netlist.specs.Refusals.{numberOf};
 
 pub enum Refusal {
     TooShort,

@@ -4,9 +4,9 @@ use mathlib.Core.List.{List}
 use Prim.Native.Nat.{ℕ, _<_}
 use Rattle.netlist.specs.Kinds.{usesOf}
 use Rattle.netlist.specs.Layout.{designOf, countOf}
-use Rattle.netlist.specs.Sound.{Acceptance}
-use Rattle.netlist.proofs.Acceptance.{holds-record}
-use Rattle.netlist.proofs.SoundLaws.{operands-below}
+use Rattle.rules.specs.Sound.{Acceptance}
+use Rattle.rules.proofs.Acceptance.{holds-record}
+use Rattle.rules.proofs.SoundLaws.{operands-below}
 use Rattle.signal.specs.Held.{Readable}
 
 module _ (file : List ℕ) (a : Acceptance file (countOf file)) where

@@ -12,15 +12,16 @@ use Rattle.bits.specs.Masks.{Within}
 use Rattle.bits.specs.Words.{lowMask}
 use Rattle.bits.proofs.Order.{within-refl, within-trans, within-zero, within-le, within-low, within-lt, low-mono, meet-right, meet-mono}
 use Rattle.bits.proofs.Shifts.{cut-mono, up-mono, up-lt, down-mono, down-lt, length-zero, length-le, length-low-mono}
-use Rattle.netlist.specs.Check.{maxWidth, widthRulesAt}
+use Rattle.netlist.specs.Limits.{maxWidth}
 use Rattle.netlist.specs.Kinds.{usesOf, widthRules}
 use Rattle.netlist.specs.Layout.{Design}
 use Rattle.netlist.specs.Rules.{AllHold}
-use Rattle.netlist.specs.Sound.{Sound}
 use Rattle.netlist.specs.declared.record.Kind.{Kind}
 use Rattle.netlist.specs.declared.record.Kind.the-variants.{Input, Constant, Register, Output, Extract, Concat, And, Or, Xor, Mux, Add, Sub, Mul, Equal, Below}
 use Rattle.netlist.specs.declared.record.Record.{Record}
-use Rattle.netlist.proofs.SoundLaws.{OperandsBelow, operands-below, word-64}
+use Rattle.rules.specs.Check.{widthRulesAt}
+use Rattle.rules.specs.Sound.{Sound}
+use Rattle.rules.proofs.SoundLaws.{OperandsBelow, operands-below, word-64}
 use Rattle.signal.specs.Asks.{upToHighest, allIfAny, asksOf, caredOf, asked, Granted, Fit}
 use Rattle.signal.specs.Held.{NoBit}
 

@@ -5,7 +5,7 @@ use mathlib.Core.List.{List, [], _∷_}
 use mathlib.Core.Logic.{_⊎_}
 use Prim.Native.Nat.{ℕ, _+_, _≤_}
 use lib.ListN.{length, take}
-use Rattle.netlist.specs.Check.{maxWidth}
+use Rattle.netlist.specs.Limits.{maxWidth}
 use Rattle.netlist.specs.Kinds.{usesOf}
 use Rattle.netlist.specs.Layout.{designOf, recordStart, recordSize}
 use Rattle.netlist.specs.declared.record.Kind.{Kind}

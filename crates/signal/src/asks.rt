@@ -18,7 +18,7 @@ ghost use lib.ListN.{length};
 ghost use Rattle.bits.specs.Words.{cut, down, lowMasks};
 ghost use Rattle.netlist.specs.Kinds.{usesOf};
 ghost use Rattle.netlist.specs.Layout.{designOf, countOf, recordStart, recordSize};
-ghost use Rattle.netlist.specs.Sound.{Acceptance};
+ghost use Rattle.rules.specs.Sound.{Acceptance};
 ghost use Rattle.signal.specs.Asks.{ask, upToHighest, allIfAny, asksOf, asked};
 ghost use Rattle.signal.specs.Held.{listed, Serves, Readable};
 

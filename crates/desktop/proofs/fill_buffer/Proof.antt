@@ -6,8 +6,8 @@ use lib.Seq.{length-take-le}
 use borrow.Author.Needs.{needs}
 use denote.Ref.{now}
 use Rattle.bits.specs.Bytes.{wordBytes}
-use Rattle.netlist.specs.Sound.{Acceptance}
 use Rattle.care.proofs.LentList.{few, front-within, front-taken, taken-length}
+use Rattle.rules.specs.Sound.{Acceptance}
 use Rattle.desktop.proofs.fill_buffer.Statement.{statement}
 use Rattle.desktop.proofs.fill_buffer.Tie as tie
 

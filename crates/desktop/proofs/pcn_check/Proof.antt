@@ -5,7 +5,7 @@ use Prim.Native.Nat.{ℕ}
 use native.Mathlib.Omega.{arith}
 use borrow.Author.Needs.{needs}
 use denote.Ref.{now}
-use Rattle.netlist.proofs.Acceptance.{refused-low}
+use Rattle.rules.proofs.Acceptance.{refused-low}
 use Rattle.desktop.specs.Answer.{checkAnswer, refusedAnswer}
 use Rattle.desktop.proofs.pcn_check.Statement.{statement}
 use Rattle.desktop.proofs.pcn_check.Tie as tie

@@ -6,13 +6,13 @@ use native.Mathlib.Omega.{arith}
 use lib.Dec.{lit<}
 use borrow.Author.Needs.{needs}
 use denote.Ref.{now}
-use Rattle.netlist.proofs.Acceptance.{accepted, refused-low}
 use Rattle.netlist.specs.Layout.{designOf}
 use Rattle.care.proofs.TallyLaws.{tally-low}
 use Rattle.care.proofs.LeastMasks.{masks-fit}
 use Rattle.care.proofs.CallLaws.{call-refused, call-bad-list, call-filled, both-of}
 use Rattle.care.specs.declared.tally.Tally.{Tally}
 use Rattle.care.specs.Least.{masksOf}
+use Rattle.rules.proofs.Acceptance.{accepted, refused-low}
 use Rattle.desktop.specs.Buffers.{masksBuffer, fillBuffer}
 use Rattle.desktop.specs.Answer.{refusedAnswer, tallyAnswer, talliedAnswer}
 use Rattle.desktop.proofs.pcn_masks.Statement.{statement}

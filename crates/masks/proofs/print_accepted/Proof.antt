@@ -5,7 +5,7 @@ use Prim.Native.Nat.{ℕ}
 use lib.Seq.{length-take-le}
 use borrow.Author.Needs.{needs}
 use denote.Ref.{now}
-use Rattle.netlist.specs.Sound.{Acceptance}
+use Rattle.rules.specs.Sound.{Acceptance}
 use Rattle.care.proofs.LentList.{few, front-within, taken-length}
 use Rattle.masks.proofs.print_accepted.Statement.{statement}
 use Rattle.masks.proofs.print_accepted.Tie as tie

@@ -3,7 +3,7 @@
 use Prim.Native.Nat.{_-_, _≤_}
 use native.Mathlib.Omega.{arith}
 use denote.Ref.{now}
-use Rattle.netlist.proofs.Acceptance.{holds-record}
+use Rattle.rules.proofs.Acceptance.{holds-record}
 use Rattle.netlist.specs.Layout.{designOf, countOf}
 use Rattle.masks.proofs.print_masks.Statement.{statement}
 use Rattle.masks.proofs.print_masks.Tie as tie

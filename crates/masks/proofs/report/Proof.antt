@@ -3,7 +3,7 @@
 use mathlib.Core.Path.{sym, _∙_}
 use borrow.Author.Needs.{needs}
 use denote.Ref.{now}
-use Rattle.netlist.proofs.Acceptance.{accepted}
+use Rattle.rules.proofs.Acceptance.{accepted}
 use Rattle.masks.proofs.report.Statement.{statement}
 use Rattle.masks.proofs.report.Tie as tie
 

@@ -6,8 +6,8 @@ use native.Mathlib.Omega.{arith}
 use borrow.Author.Needs.{needs}
 use denote.Ref.{now}
 use Rattle.netlist.specs.Layout.{designOf}
-use Rattle.netlist.proofs.Acceptance.{accepted}
-use Rattle.netlist.specs.Sound.{Acceptance}
+use Rattle.rules.proofs.Acceptance.{accepted}
+use Rattle.rules.specs.Sound.{Acceptance}
 use Rattle.care.proofs.CallLaws.{both-of, call-refused, call-bad-list, call-filled}
 use Rattle.care.specs.Call.{masksCall, fillMasks}
 use Rattle.care.specs.declared.tally.Tallied.the-variants.{Done}

@@ -7,7 +7,7 @@ use Rattle.netlist.specs.declared.record.Uses.{Uses}
 use Rattle.netlist.specs.declared.record.Record.{Record}
 use Rattle.netlist.specs.Layout.{designOf}
 use Rattle.netlist.specs.Kinds.{usesOf}
-use Rattle.netlist.proofs.Acceptance.{holds-record}
+use Rattle.rules.proofs.Acceptance.{holds-record}
 use Rattle.care.specs.Least.{seedOf}
 use Rattle.care.proofs.masks.seed_at.Statement.{statement}
 use Rattle.care.proofs.masks.seed_at.Tie as tie

@@ -5,11 +5,11 @@ use mathlib.Core.Path.{_≡_, sym, subst, _∙_}
 use Prim.Native.Nat.{ℕ, suc, _-_, _≤_, _<_}
 use native.Mathlib.Omega.{arith}
 use denote.Ref.{now}
-use Rattle.netlist.specs.Sound.{Sound}
 use Rattle.netlist.specs.Layout.{designOf, countOf, Design}
 use Rattle.signal.specs.declared.asks.Asks.{Asks}
 use Rattle.signal.specs.Asks.{asked}
 use Rattle.signal.specs.Held.{listed, Serves}
+use Rattle.rules.specs.Sound.{Sound}
 use Rattle.care.proofs.SweepLaws.{Sweeping, sweep-begins, sweep-step, sweep-ends, serves-grant, serves-marks, serves-named}
 use Rattle.care.proofs.Rounds.{asked-named}
 use Rattle.care.specs.Sweep.{marksOf}

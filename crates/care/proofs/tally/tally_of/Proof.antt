@@ -6,7 +6,7 @@ use native.Mathlib.Omega.{arith}
 use denote.Ref.{now}
 use Rattle.bits.specs.Lists.{sumTo}
 use Rattle.netlist.specs.Layout.{designOf, countOf, recordAt}
-use Rattle.netlist.proofs.Acceptance.{holds-record}
+use Rattle.rules.proofs.Acceptance.{holds-record}
 use Rattle.care.proofs.TallyLaws.{Counted, widths-bound, ones-bound, ones-low, counted-next}
 use Rattle.care.specs.declared.tally.Tally.{Tally}
 use Rattle.care.proofs.tally.tally_of.Statement.{statement}

@@ -8,7 +8,7 @@ use borrow.Author.Tests.{ltb-true}
 use denote.Ref.{now}
 use Rattle.netlist.specs.declared.record.Record.{Record}
 use Rattle.netlist.specs.Layout.{designOf, recordAt}
-use Rattle.netlist.proofs.Acceptance.{holds-record}
+use Rattle.rules.proofs.Acceptance.{holds-record}
 use Rattle.signal.specs.Asks.{asked, asksOf}
 use Rattle.signal.specs.Held.{Readable, NoBit}
 use Rattle.signal.proofs.RuleLaws.{asks-quiet}

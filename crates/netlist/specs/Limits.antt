@@ -1,0 +1,13 @@
+-- The limits of the format.
+-- Assumes nothing.
+use Prim.Native.Nat.{ℕ}
+
+-- "The limits 64, 2,048 and 15 kinds are each named in one place."
+abbrev pub maxWidth : ℕ
+maxWidth = 64
+
+abbrev pub maxCount : ℕ
+maxCount = 2048
+
+abbrev pub kindCount : ℕ
+kindCount = 15

@@ -1,0 +1,19 @@
+-- The refusals and their numbers.
+-- Assumes nothing.
+use Prim.Native.Nat.{ℕ}
+use Rattle.netlist.specs.declared.refusal.Refusal.{Refusal}
+use Rattle.netlist.specs.declared.refusal.Refusal.the-variants.{TooShort, BadMark, BadVersion, TooManyRecords, BadLength, BadKind, BadWidth, BadOperand, BadWidthRule, UnusedBit, BadList}
+
+-- The paper's number of each refusal.
+abbrev pub numberOf : Refusal → ℕ
+numberOf TooShort = 1
+numberOf BadMark = 2
+numberOf BadVersion = 3
+numberOf TooManyRecords = 4
+numberOf BadLength = 5
+numberOf BadKind = 6
+numberOf BadWidth = 7
+numberOf BadOperand = 8
+numberOf BadWidthRule = 9
+numberOf UnusedBit = 10
+numberOf BadList = 11

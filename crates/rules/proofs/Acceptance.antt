@@ -1,0 +1,94 @@
+-- What acceptance means: an accepted file holds a sound design of its count and has the length that the count asks for; a
+-- refused one names a record of the file. Assumes nothing.
+use mathlib.Core.Path.{_≡_, refl, sym, ap, subst, _∙_}
+use mathlib.Core.Logic.{_⊎_, inl, inr}
+use mathlib.Core.List.{List}
+use Prim.Native.Nat.{ℕ, zero, suc, _+_, _≤_, _<_}
+use native.Mathlib.Nat.{eq-or-lt-of-le}
+use native.Mathlib.Omega.{arith}
+use lib.ListN.{length}
+use Rattle.netlist.specs.Limits.{maxCount}
+use Rattle.netlist.specs.Layout.{designOf, countOf, recordStart, recordSize}
+use Rattle.netlist.specs.declared.refusal.Refusal.{Refusal}
+use Rattle.rules.specs.Check.{checkOf, checkFrom, refuseAt, firstBroken, headerRules, recordRules, wordRules}
+use Rattle.rules.specs.Sound.{Acceptance}
+use Rattle.rules.specs.declared.check.Checked.{Checked}
+use Rattle.rules.specs.declared.check.Checked.the-variants.{Accepted, Refused}
+use Rattle.rules.specs.declared.check.Verdict.{Verdict}
+use Rattle.rules.specs.declared.check.Verdict.the-variants.{Pass, Fail}
+use Rattle.rules.proofs.CheckLaws.{Kept, pass-kept}
+
+-- a step that ends in acceptance passed, and so did what follows
+pub past-refusal : (i n : ℕ) (v : Verdict) (next : Checked) → refuseAt i v next ≡ Accepted n → (v ≡ Pass) × (next ≡ Accepted n)
+unfolding refuseAt
+past-refusal i n Pass next e = (refl, e)
+past-refusal i n (Fail r) next e = absurd (let z : _≡_ {A = ℕ} 0 1 = cc in omega arith)
+
+-- of the records from i on, the i-th or one of the later ones
+this-or-later : (file : List ℕ) (i j : ℕ) → Kept (recordRules file i) → (i < j → Kept (recordRules file j)) → (i ≡ j) ⊎ (i < j) → Kept (recordRules file j)
+this-or-later file i j this later (inl e) = subst (λ (k : ℕ). Kept (recordRules file k)) e this
+this-or-later file i j this later (inr h) = later h
+
+-- each record of an accepted file keeps its rules
+pub each-kept : (file : List ℕ) (n left i : ℕ) → checkFrom file left i ≡ Accepted n → (j : ℕ) → i ≤ j → j < i + left → Kept (recordRules file j)
+unfolding checkFrom
+each-kept file n zero i e j h g = absurd (let z : _≡_ {A = ℕ} 0 1 = omega arith in omega arith)
+each-kept file n (suc left) i e j h g =
+    let both = past-refusal i n (firstBroken (recordRules file i)) (checkFrom file left (suc i)) e in
+    this-or-later file i j (pass-kept (recordRules file i) (both .0)) (λ p. each-kept file n left (suc i) (both .1) j p (omega arith)) (eq-or-lt-of-le h)
+
+-- the end of the records answers the count
+accepted-count : (file : List ℕ) (n left i : ℕ) → checkFrom file left i ≡ Accepted n → n ≡ countOf file
+unfolding checkFrom
+accepted-count file n zero i e = let p : countOf file ≡ n = cc in sym p
+accepted-count file n (suc left) i e =
+    accepted-count file n left (suc i) (past-refusal i n (firstBroken (recordRules file i)) (checkFrom file left (suc i)) e .1)
+
+pub accepted : (file : List ℕ) (n : ℕ) → checkOf file ≡ Accepted n → Acceptance file n
+unfolding checkOf headerRules recordRules wordRules designOf
+accepted file n e =
+    let both = past-refusal 0 n (firstBroken (headerRules file)) (checkFrom file (countOf file) 0) e in
+    let header = pass-kept (headerRules file) (both .0) in
+    let same = accepted-count file n (countOf file) 0 (both .1) in
+    record {
+      count = same;
+      size = header .1 .1 .1 .1 .0 .0 ∙ ap recordStart (sym same);
+      sound = record {
+        few = header .1 .1 .1 .0 .0;
+        each = λ i h.
+            let k = each-kept file n (countOf file) 0 (both .1) i (omega arith) (omega arith) in
+            record {
+              positive = k .1 .0 .0;
+              narrow = k .1 .0 .1 .0;
+              operands = k .1 .1 .0;
+              widths = k .1 .1 .1 .0;
+              keep = k .1 .1 .1 .1 .1 .0 .0;
+              word = k .1 .1 .1 .1 .1 .0 .1 .0;
+            };
+      };
+    }
+
+-- an accepted file holds all its records
+pub holds-record : (file : List ℕ) → Acceptance file (countOf file) → (i : ℕ) → i < countOf file → recordStart i + recordSize ≤ length file
+holds-record file a i h = let s = a .size in omega arith
+
+-- a refusal names a record below the limit of records
+refused-record : (file : List ℕ) (r : Refusal) (j left i : ℕ) → checkFrom file left i ≡ Refused r j → j < i + left
+unfolding checkFrom refuseAt
+refused-record file r j zero i e = absurd (let z : _≡_ {A = ℕ} 0 1 = cc in omega arith)
+refused-record file r j (suc left) i e = go (firstBroken (recordRules file i)) e (refused-record file r j left (suc i))
+  where
+    go : (v : Verdict) → refuseAt i v (checkFrom file left (suc i)) ≡ Refused r j → (checkFrom file left (suc i) ≡ Refused r j → j < suc i + left) → j < i + suc left
+    go Pass e later = let h = later e in omega arith
+    go (Fail s) e later = let p : i ≡ j = cc in omega arith
+
+pub refused-low : (file : List ℕ) (r : Refusal) (j : ℕ) → checkOf file ≡ Refused r j → j ≤ maxCount
+unfolding checkOf refuseAt headerRules
+refused-low file r j e = go (firstBroken (headerRules file)) refl e
+  where
+    go : (v : Verdict) → firstBroken (headerRules file) ≡ v → refuseAt 0 v (checkFrom file (countOf file) 0) ≡ Refused r j → j ≤ maxCount
+    go Pass q e =
+        let h = refused-record file r j (countOf file) 0 e in
+        let few = pass-kept (headerRules file) q .1 .1 .1 .0 .0 in
+        omega arith
+    go (Fail s) q e = let p : 0 ≡ j = cc in omega arith

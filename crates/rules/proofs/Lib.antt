@@ -1,0 +1,9 @@
+-- What acceptance means, and that every accepted file is the encoding of its design; the laws on the way.
+-- Assumes nothing.
+pub mod Acceptance
+pub mod Canonical
+pub mod CheckLaws
+pub mod Encoded
+pub mod EncodedBytes
+pub mod OperandLaws
+pub mod SoundLaws

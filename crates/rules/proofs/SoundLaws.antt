@@ -1,0 +1,116 @@
+-- Laws of sound designs: operand fields name records of the design, k fits a word, and a design that is the same in all its
+-- records is sound too. Assumes nothing.
+use mathlib.Core.Path.{_≡_, sym, subst}
+use mathlib.Core.List.{List, [], _∷_}
+use mathlib.Core.Bool.{false}
+use Prim.Native.Nat.{ℕ, _^_, _≤_, _<_}
+use native.Mathlib.Nat.{lt-of-lt-of-le}
+use native.Mathlib.Omega.{arith}
+use lib.Dec.{lit<}
+use lib.Pow.{pow-mono}
+use Rattle.netlist.specs.Limits.{maxWidth}
+use Rattle.netlist.specs.Kinds.{operandsOf, isOutput, usesOf, widthRules}
+use Rattle.netlist.specs.Layout.{Design}
+use Rattle.netlist.specs.Rules.{AllHold}
+use Rattle.netlist.specs.declared.record.Kind.{Kind}
+use Rattle.netlist.specs.declared.record.Kind.the-variants.{Input, Constant, Register, Output, Extract, Concat, And, Or, Xor, Mux, Add, Sub, Mul, Equal, Below}
+use Rattle.netlist.specs.declared.record.Record.{Record}
+use Rattle.netlist.specs.declared.record.Uses.{Uses}
+use Rattle.netlist.proofs.KindLaws.{padded}
+use Rattle.netlist.proofs.Tests.{hold-tests}
+use Rattle.rules.specs.Check.{operandLimit, namesRules, operandRules, widthRulesAt}
+use Rattle.rules.specs.Sound.{Sound, SoundRecord, SameDesign}
+use Rattle.rules.proofs.CheckLaws.{limit-le}
+use Rattle.rules.proofs.OperandLaws.{operand-below}
+
+-- the operand fields of what a kind uses lie below n
+pub record OperandsBelow (u : Uses) (n : ℕ) : Type 0 where
+  pub a : u .a < n
+  pub b : u .b < n
+  pub c : u .c < n
+
+-- k is a word of 64 bits: it fits its record's width, or it is a place within its operand
+k-word : (kind : Kind) (w wa wb wc : ℕ) → AllHold (widthRules kind w wa wb wc) → usesOf kind .word < 2 ^ 64 → wa ≤ 64 → usesOf kind .k < 2 ^ 64
+k-word Input w wa wb wc h g l = lit< tt
+k-word (Constant k) w wa wb wc h g l = g
+k-word (Register a k) w wa wb wc h g l = g
+k-word (Output a) w wa wb wc h g l = lit< tt
+k-word (Extract a k) w wa wb wc h g l = omega arith
+k-word (Concat a b) w wa wb wc h g l = lit< tt
+k-word (And a b) w wa wb wc h g l = lit< tt
+k-word (Or a b) w wa wb wc h g l = lit< tt
+k-word (Xor a b) w wa wb wc h g l = lit< tt
+k-word (Mux a b c) w wa wb wc h g l = lit< tt
+k-word (Add a b) w wa wb wc h g l = lit< tt
+k-word (Sub a b) w wa wb wc h g l = lit< tt
+k-word (Mul a b) w wa wb wc h g l = lit< tt
+k-word (Equal a b) w wa wb wc h g l = lit< tt
+k-word (Below a b) w wa wb wc h g l = lit< tt
+
+module _ (d : Design) (s : Sound d) (i : ℕ) (h : i < d .count) where
+  pub limit-count : operandLimit (usesOf (d .at i .kind) .role) (d .count) i ≤ d .count
+  limit-count = limit-le (usesOf (d .at i .kind) .role) (d .count) i (omega arith)
+
+  pub operands-below : OperandsBelow (usesOf (d .at i .kind)) (d .count)
+  unfolding operandRules
+  operands-below =
+      let u = usesOf (d .at i .kind) in
+      let p = padded (d .at i .kind) in
+      let below = operand-below d (operandLimit (u .role) (d .count) i) (d .count) (operandsOf u) limit-count (omega arith)
+      (hold-tests (operandRules d i) (s .each i h .operands)) in
+      record {
+        a = subst (λ (j : ℕ). j < d .count) (sym (p .first)) (below 0);
+        b = subst (λ (j : ℕ). j < d .count) (sym (p .second)) (below 1);
+        c = subst (λ (j : ℕ). j < d .count) (sym (p .third)) (below 2);
+      }
+
+  -- a word within a record's width is a word of 64 bits
+  pub word-64 : (x : ℕ) → x < 2 ^ d .at i .width → x < 2 ^ 64
+  word-64 x g = lt-of-lt-of-le g (pow-mono (s .each i h .narrow))
+
+pub k-64 : (d : Design) (s : Sound d) (i : ℕ) (h : i < d .count) → usesOf (d .at i .kind) .k < 2 ^ 64
+unfolding widthRulesAt
+k-64 d s i h =
+    let u = usesOf (d .at i .kind) in
+    let r = s .each i h in
+    k-word (d .at i .kind) (d .at i .width) (d .at (u .a) .width) (d .at (u .b) .width) (d .at (u .c) .width) (r .widths)
+    (word-64 d s i h (u .word) (r .word)) (s .each (u .a) (operands-below d s i h .a) .narrow)
+
+-- the operands' rules look only at records below the limit
+names-same : (d e : Design) (limit : ℕ) → ((j : ℕ) → j < limit → d .at j ≡ e .at j) → (js : List ℕ) → AllHold (namesRules d limit js) → AllHold (namesRules e limit js)
+unfolding namesRules
+names-same d e limit same [] a = tt
+names-same d e limit same (j ∷ js) a = (
+  a .0,
+  (subst (λ (r : Record). isOutput (usesOf (r .kind) .role) ≡ false) (same j (a .0)) (a .1 .0), names-same d e limit same js (a .1 .1)),
+)
+
+module _ (d e : Design) (same : SameDesign d e) (s : Sound d) (i : ℕ) (h : i < d .count) where
+  operands-same : AllHold (operandRules e i)
+  unfolding operandRules
+  operands-same =
+      subst (λ (r : Record). AllHold (namesRules e (operandLimit (usesOf (r .kind) .role) (e .count) i) (operandsOf (usesOf (r .kind))))) (same .each i h)
+      (subst (λ (n : ℕ). AllHold (namesRules e (operandLimit (usesOf (d .at i .kind) .role) n i) (operandsOf (usesOf (d .at i .kind))))) (same .count)
+      (names-same d e (operandLimit (usesOf (d .at i .kind) .role) (d .count) i) (λ j g. same .each j (let l = limit-count d s i h in omega arith))
+      (operandsOf (usesOf (d .at i .kind))) (s .each i h .operands)))
+
+  widths-same : AllHold (widthRulesAt e i)
+  unfolding widthRulesAt
+  widths-same =
+      let b = operands-below d s i h in
+      subst (λ (r : Record). AllHold (let u = usesOf (r .kind) in widthRules (r .kind) (r .width) (e .at (u .a) .width) (e .at (u .b) .width) (e .at (u .c) .width)))
+      (same .each i h)
+      (rw (sym (same .each _ (b .a)), sym (same .each _ (b .b)), sym (same .each _ (b .c))) (s .each i h .widths))
+
+  pub record-same : SoundRecord e i
+  record-same =
+      let r = s .each i h in
+      let q = same .each i h in
+      record {
+        positive = subst (λ (r : Record). 1 ≤ r .width) q (r .positive);
+        narrow = subst (λ (r : Record). r .width ≤ maxWidth) q (r .narrow);
+        operands = operands-same;
+        widths = widths-same;
+        keep = subst (λ (r : Record). r .keep < 2 ^ r .width) q (r .keep);
+        word = subst (λ (r : Record). usesOf (r .kind) .word < 2 ^ r .width) q (r .word);
+      }
