@@ -12,29 +12,36 @@ use Rattle.desktop.proofs.fill_buffer.Statement.{statement}
 use Rattle.desktop.proofs.fill_buffer.Tie as tie
 
 array-borrow-prefix-words : tie.Need-array-borrow-prefix-words
-array-borrow-prefix-words c = few (now (c .before .before .args .file)) (c .before .before .args .n) (c .before .before .pre .0)
+array-borrow-prefix-words c = let args = c .before .before .args in
+    few (now (args .file)) (args .n) (c .before .before .pre .0)
 
 slice-aggregate-fill : tie.Need-slice-aggregate-fill
-slice-aggregate-fill c = sym (length-take-le (c .before .before .before .args .n) _ (few (now (c .before .before .before .args .file)) (c .before .before .before .args .n) (c .before .before .before .pre .0)))
+slice-aggregate-fill c = let args = c .before .before .before .args in
+    sym (length-take-le (args .n) _ (few (now (args .file)) (args .n) (c .before .before .before .pre .0)))
 
 fill-requires : tie.Need-fill-requires
-fill-requires c κs = let a = c .before .before .before .pre .0 in
-    (subst (λ (n : ℕ). Acceptance (now (c .before .before .before .args .file)) n) (a .count) a, length-take-le (c .before .before .before .args .n) _ (few (now (c .before .before .before .args .file)) (c .before .before .before .args .n) a) ∙ a .count)
+fill-requires c κs = let args = c .before .before .before .args in
+    let a = c .before .before .before .pre .0 in
+    (subst (λ (n : ℕ). Acceptance (now (args .file)) n) (a .count) a, length-take-le (args .n) _ (few (now (args .file)) (args .n) a) ∙ a .count)
 
 array-share-prefix-words : tie.Need-array-share-prefix-words
-array-share-prefix-words c = front-within (now (c .before .before .before .before .before .before .args .file)) (c .before .before .before .before .before .before .args .n) (c .before .before .before .before .before .before .pre .0) (c .before .before .fill .last .1 .0) (c .before .before .fill .ensures .1) _
+array-share-prefix-words c = let args = c .before .before .before .before .before .before .args in
+    front-within (now (args .file)) (args .n) (c .before .before .before .before .before .before .pre .0) (c .before .before .fill .last .1 .0) (c .before .before .fill .ensures .1) _
 
 slice-aggregate-write-words : tie.Need-slice-aggregate-write-words
-slice-aggregate-write-words c = taken-length (now (c .before .before .before .before .before .before .before .args .file)) (c .before .before .before .before .before .before .before .args .n) (c .before .before .before .before .before .before .before .pre .0) (c .before .before .before .fill .last .1 .0) (c .before .before .before .fill .ensures .1) _
+slice-aggregate-write-words c = let args = c .before .before .before .before .before .before .before .args in
+    taken-length (now (args .file)) (args .n) (c .before .before .before .before .before .before .before .pre .0) (c .before .before .before .fill .last .1 .0) (c .before .before .before .fill .ensures .1) _
 
 write-words-requires : tie.Need-write-words-requires
-write-words-requires c κs = c .before .before .before .before .before .before .before .pre .1 ∙ ap (λ (n : ℕ). 8 * n) (taken-length (now (c .before .before .before .before .before .before .before .args .file)) (c .before .before .before .before .before .before .before .args .n) (c .before .before .before .before .before .before .before .pre .0) (c .before .before .before .fill .last .1 .0) (c .before .before .before .fill .ensures .1) _)
+write-words-requires c κs = let args = c .before .before .before .before .before .before .before .args in
+    c .before .before .before .before .before .before .before .pre .1 ∙ ap (λ (n : ℕ). 8 * n) (taken-length (now (args .file)) (args .n) (c .before .before .before .before .before .before .before .pre .0) (c .before .before .before .fill .last .1 .0) (c .before .before .before .fill .ensures .1) _)
 
 same-length : tie.Need-same-length
 same-length c = search needs
 
 returns : tie.Need-returns
-returns c = (c .before .before .before .before .before .before .fill .ensures .0, c .before .before .write-words .ensures ∙ ap wordBytes (front-taken (now (c .before .before .before .before .before .before .before .before .before .before .args .file)) (c .before .before .before .before .before .before .before .before .before .before .args .n) (c .before .before .before .before .before .before .before .before .before .before .pre .0) (c .before .before .before .before .before .before .fill .last .1 .0) (c .before .before .before .before .before .before .fill .ensures .1) _ ∙ c .before .before .before .before .before .before .fill .ensures .1))
+returns c = let args = c .before .before .before .before .before .before .before .before .before .before .args in
+    (c .before .before .before .before .before .before .fill .ensures .0, c .before .before .write-words .ensures ∙ ap wordBytes (front-taken (now (args .file)) (args .n) (c .before .before .before .before .before .before .before .before .before .before .pre .0) (c .before .before .before .before .before .before .fill .last .1 .0) (c .before .before .before .before .before .before .fill .ensures .1) _ ∙ c .before .before .before .before .before .before .fill .ensures .1))
 
 pub fill-buffer-spec : {M : Type 1} → statement M
 fill-buffer-spec =

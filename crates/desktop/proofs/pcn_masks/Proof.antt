@@ -36,15 +36,17 @@ refused-requires c κs = (c .number .ensures .1, lit< tt)
 
 returns : tie.Need-returns
 unfolding talliedAnswer masksBuffer
-returns c = let b = both-of _ _ (call-bad-list (λ n. 8 * n) (now (c .before .before .before .before .before .before .before .before .before .args .file)) (fillBuffer (designOf (now (c .before .before .before .before .before .before .before .before .before .args .file)))) (now (c .before .before .before .before .before .before .before .before .before .args .masks)) (sym (c .before .before .before .before .before .before .check .ensures) ∙ c .before .before .before .before .n .given .1) (λ q. let t = c .before .before .if1 .taken in omega arith)) in
+returns c = let args = c .before .before .before .before .before .before .before .before .before .args in
+    let b = both-of _ _ (call-bad-list (λ n. 8 * n) (now (args .file)) (fillBuffer (designOf (now (args .file)))) (now (args .masks)) (sym (c .before .before .before .before .before .before .check .ensures) ∙ c .before .before .before .before .n .given .1) (λ q. let t = c .before .before .if1 .taken in omega arith)) in
     (c .refused .ensures ∙ ap (λ (n : ℕ). refusedAnswer n 0) (c .before .number .ensures .0) ∙ ap talliedAnswer (b .0), b .1)
 
 fill-buffer-requires : tie.Need-fill-buffer-requires
 fill-buffer-requires c κs = (accepted (now (c .before .before .before .before .before .before .before .before .args .file)) _ (sym (c .before .before .before .before .before .check .ensures) ∙ c .before .before .before .n .given .1), let t = c .before .if1 .left in omega arith)
 
 tallied-requires : tie.Need-tallied-requires
-tallied-requires c κs = let a = accepted (now (c .before .before .before .before .before .before .before .before .before .before .before .args .file)) _ (sym (c .before .before .before .before .before .before .before .before .check .ensures) ∙ c .before .before .before .before .before .before .n .given .1) in
-    let d = designOf (now (c .before .before .before .before .before .before .before .before .before .before .before .args .file)) in
+tallied-requires c κs = let args = c .before .before .before .before .before .before .before .before .before .before .before .args in
+    let a = accepted (now (args .file)) _ (sym (c .before .before .before .before .before .before .before .before .check .ensures) ∙ c .before .before .before .before .before .before .n .given .1) in
+    let d = designOf (now (args .file)) in
     let l = tally-low d (a .sound) (masksOf d) (masks-fit d (a .sound)) in
     subst (λ (t : Tally). (t .widths < 2 ^ 31) × (t .ones < 2 ^ 31)) (sym (c .before .before .fill-buffer .ensures .0)) l
 
@@ -62,12 +64,14 @@ same-length c = search needs
 
 returns-2 : tie.Need-returns-2
 unfolding talliedAnswer masksBuffer
-returns-2 c = let b = both-of _ _ (call-filled (λ n. 8 * n) (now (c .before .before .before .before .before .before .before .before .before .before .before .before .args .file)) (fillBuffer (designOf (now (c .before .before .before .before .before .before .before .before .before .before .before .before .args .file)))) (now (c .before .before .before .before .before .before .before .before .before .before .before .before .args .masks)) (sym (c .before .before .before .before .before .before .before .before .before .check .ensures) ∙ c .before .before .before .before .before .before .before .n .given .1) (let t = c .before .before .before .before .before .if1 .left in omega arith)) in
+returns-2 c = let args = c .before .before .before .before .before .before .before .before .before .before .before .before .args in
+    let b = both-of _ _ (call-filled (λ n. 8 * n) (now (args .file)) (fillBuffer (designOf (now (args .file)))) (now (args .masks)) (sym (c .before .before .before .before .before .before .before .before .before .check .ensures) ∙ c .before .before .before .before .before .before .before .n .given .1) (let t = c .before .before .before .before .before .if1 .left in omega arith)) in
     (c .tallied .ensures ∙ ap tallyAnswer (c .before .before .before .fill-buffer .ensures .0) ∙ ap talliedAnswer (b .0), c .before .before .before .fill-buffer .ensures .1 ∙ b .1)
 
 returns-3 : tie.Need-returns-3
 unfolding talliedAnswer masksBuffer
-returns-3 c = let b = both-of _ _ (call-refused (λ n. 8 * n) (now (c .before .before .before .before .before .before .before .before .args .file)) (fillBuffer (designOf (now (c .before .before .before .before .before .before .before .before .args .file)))) (now (c .before .before .before .before .before .before .before .before .args .masks)) (sym (c .before .before .before .before .before .check .ensures) ∙ c .before .before .before .r .given .1)) in
+returns-3 c = let args = c .before .before .before .before .before .before .before .before .args in
+    let b = both-of _ _ (call-refused (λ n. 8 * n) (now (args .file)) (fillBuffer (designOf (now (args .file)))) (now (args .masks)) (sym (c .before .before .before .before .before .check .ensures) ∙ c .before .before .before .r .given .1)) in
     (c .refused2 .ensures ∙ ap (λ (n : ℕ). refusedAnswer n (c .before .before .before .r .given .0 .1 .0)) (c .before .number2 .ensures .0) ∙ ap talliedAnswer (b .0), b .1)
 
 pub pcn-masks-spec : {M : Type 1} → statement M

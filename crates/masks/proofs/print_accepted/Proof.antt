@@ -11,27 +11,33 @@ use Rattle.masks.proofs.print_accepted.Statement.{statement}
 use Rattle.masks.proofs.print_accepted.Tie as tie
 
 array-borrow-prefix-words : tie.Need-array-borrow-prefix-words
-array-borrow-prefix-words c = few (now (c .before .args .file)) (c .before .args .n) (c .before .pre)
+array-borrow-prefix-words c = let args = c .before .args in
+    few (now (args .file)) (args .n) (c .before .pre)
 
 slice-aggregate-fill : tie.Need-slice-aggregate-fill
-slice-aggregate-fill c = sym (length-take-le (c .before .before .args .n) _ (few (now (c .before .before .args .file)) (c .before .before .args .n) (c .before .before .pre)))
+slice-aggregate-fill c = let args = c .before .before .args in
+    sym (length-take-le (args .n) _ (few (now (args .file)) (args .n) (c .before .before .pre)))
 
 fill-requires : tie.Need-fill-requires
-fill-requires c κs = let a = c .before .before .pre in
-    (subst (λ (n : ℕ). Acceptance (now (c .before .before .args .file)) n) (a .count) a, length-take-le (c .before .before .args .n) _ (few (now (c .before .before .args .file)) (c .before .before .args .n) a) ∙ a .count)
+fill-requires c κs = let args = c .before .before .args in
+    let a = c .before .before .pre in
+    (subst (λ (n : ℕ). Acceptance (now (args .file)) n) (a .count) a, length-take-le (args .n) _ (few (now (args .file)) (args .n) a) ∙ a .count)
 
 print-tally-requires : tie.Need-print-tally-requires
 print-tally-requires c κs = search needs
 
 array-share-prefix-words : tie.Need-array-share-prefix-words
-array-share-prefix-words c = front-within (now (c .before .before .before .before .before .args .file)) (c .before .before .before .before .before .args .n) (c .before .before .before .before .before .pre) (c .before .before .fill .last .1 .0) (c .before .before .fill .ensures .1) _
+array-share-prefix-words c = let args = c .before .before .before .before .before .args in
+    front-within (now (args .file)) (args .n) (c .before .before .before .before .before .pre) (c .before .before .fill .last .1 .0) (c .before .before .fill .ensures .1) _
 
 slice-aggregate-print-masks : tie.Need-slice-aggregate-print-masks
-slice-aggregate-print-masks c = taken-length (now (c .before .before .before .before .before .before .args .file)) (c .before .before .before .before .before .before .args .n) (c .before .before .before .before .before .before .pre) (c .before .before .before .fill .last .1 .0) (c .before .before .before .fill .ensures .1) _
+slice-aggregate-print-masks c = let args = c .before .before .before .before .before .before .args in
+    taken-length (now (args .file)) (args .n) (c .before .before .before .before .before .before .pre) (c .before .before .before .fill .last .1 .0) (c .before .before .before .fill .ensures .1) _
 
 print-masks-requires : tie.Need-print-masks-requires
-print-masks-requires c κs = let a = c .before .before .before .before .before .before .pre in
-    (subst (λ (n : ℕ). Acceptance (now (c .before .before .before .before .before .before .args .file)) n) (a .count) a, sym (taken-length (now (c .before .before .before .before .before .before .args .file)) (c .before .before .before .before .before .before .args .n) a (c .before .before .before .fill .last .1 .0) (c .before .before .before .fill .ensures .1) _) ∙ a .count)
+print-masks-requires c κs = let args = c .before .before .before .before .before .before .args in
+    let a = c .before .before .before .before .before .before .pre in
+    (subst (λ (n : ℕ). Acceptance (now (args .file)) n) (a .count) a, sym (taken-length (now (args .file)) (args .n) a (c .before .before .before .fill .last .1 .0) (c .before .before .before .fill .ensures .1) _) ∙ a .count)
 
 returns : tie.Need-returns
 returns c = search needs

@@ -38,7 +38,8 @@ shared-slice-read-write-64 : tie.Need-shared-slice-read-write-64 Inv-loop μ-loo
 shared-slice-read-write-64 c = c .before .before .loop-test .taken
 
 write-64-requires : tie.Need-write-64-requires Inv-loop μ-loop
-write-64-requires c κs = let s = c .before .before .before .loop .inv .size in let t = c .before .before .loop-test .taken in let m = part-length (8 * c .before .before .before .loop .i) (c .before .before .before .loop .d) in omega arith
+write-64-requires c κs = let loop = c .before .before .before .loop in
+    let s = loop .inv .size in let t = c .before .before .loop-test .taken in let m = part-length (8 * loop .i) (loop .d) in omega arith
 
 add-i : tie.Need-add-i Inv-loop μ-loop
 add-i c = let s = c .before .before .before .before .before .before .loop .inv .size in let t = c .before .before .before .before .before .loop-test .taken in omega arith
@@ -47,13 +48,15 @@ loop-less : tie.Need-loop-less Inv-loop μ-loop
 loop-less c = let t = c .before .before .before .before .before .loop-test .taken in omega arith
 
 loop-again : tie.Need-loop-again Inv-loop μ-loop
-loop-again c = written-next (now (c .before .before .before .before .before .before .before .before .before .args .words)) (c .before .before .before .before .before .before .loop .d) (c .before .before .write-64 .last .0) (c .before .before .before .before .before .before .loop .i) _ (c .before .before .before .before .before .before .loop .inv) (c .before .before .before .before .before .loop-test .taken) refl (c .before .before .write-64 .ensures)
+loop-again c = let loop = c .before .before .before .before .before .before .loop in
+    written-next (now (c .before .before .before .before .before .before .before .before .before .args .words)) (loop .d) (c .before .before .write-64 .last .0) (loop .i) _ (loop .inv) (c .before .before .before .before .before .loop-test .taken) refl (c .before .before .write-64 .ensures)
 
 same-length : tie.Need-same-length Inv-loop μ-loop
 same-length c = c .before .loop .inv .size ∙ sym (c .before .before .before .before .pre)
 
 returns : tie.Need-returns Inv-loop μ-loop
-returns c = written-all (now (c .before .before .before .before .args .words)) (c .before .loop .d) (c .before .loop .i) (c .before .loop .inv) (c .loop-test .left)
+returns c = let loop = c .before .loop in
+    written-all (now (c .before .before .before .before .args .words)) (loop .d) (loop .i) (loop .inv) (c .loop-test .left)
 
 pub write-words-spec : {M : Type 1} → statement M
 write-words-spec =

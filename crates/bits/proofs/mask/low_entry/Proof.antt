@@ -20,7 +20,8 @@ shared-slice-read-result c = let e = ap length (c .before .pre .0) ∙ length-wo
 
 returns : tie.Need-returns
 unfolding lowMasks
-returns c = ap (λ (l : List ℕ). getD l (c .before .args .n) 0) (c .before .pre .0) ∙ word-at lowMask 65 (c .before .args .n) (let p = c .before .pre .1 in omega arith)
+returns c = let args = c .before .args in
+    ap (λ (l : List ℕ). getD l (args .n) 0) (c .before .pre .0) ∙ word-at lowMask 65 (args .n) (let p = c .before .pre .1 in omega arith)
 
 pub low-entry-spec : {M : Type 1} → statement M
 low-entry-spec = tie.close (tie.spec mul-result shared-slice-read-result returns)

@@ -17,7 +17,8 @@ shl-result : tie.Need-shl-result
 shl-result c = search needs
 
 sub-result : tie.Need-sub-result
-sub-result c = subst (λ (m : ℕ). 1 ≤ m) (sym (moved-one (c .before .args .n) (let h = c .if1 .taken in omega arith))) (pow-pos (c .before .args .n))
+sub-result c = let args = c .before .args in
+    subst (λ (m : ℕ). 1 ≤ m) (sym (moved-one (args .n) (let h = c .if1 .taken in omega arith))) (pow-pos (args .n))
 
 returns : tie.Need-returns
 returns c = ap (λ (m : ℕ). m - 1) (moved-one (c .before .args .n) (let h = c .if1 .taken in omega arith))

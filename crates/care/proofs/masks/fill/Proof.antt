@@ -17,15 +17,17 @@ seed-requires c κs = c .before .before .before .pre
 
 raise-requires : tie.Need-raise-requires
 unfolding designOf
-raise-requires c κs = let s = c .before .before .before .before .before .before .before .pre .0 in (s, subst (λ (l : List ℕ). Fits (designOf (now (c .before .before .before .before .before .before .before .args .file))) l) (sym (c .before .before .before .seed .ensures)) (seed-fits (designOf (now (c .before .before .before .before .before .before .before .args .file))) (s .sound)))
+raise-requires c κs = let args = c .before .before .before .before .before .before .before .args in
+    let s = c .before .before .before .before .before .before .before .pre .0 in (s, subst (λ (l : List ℕ). Fits (designOf (now (args .file))) l) (sym (c .before .before .before .seed .ensures)) (seed-fits (designOf (now (args .file))) (s .sound)))
 
 tally-of-requires : tie.Need-tally-of-requires
 unfolding masksOf designOf
-tally-of-requires c κs = let s = c .before .before .before .before .before .before .before .before .before .before .before .pre .0 in (
-  s,
-  subst (λ (l : List ℕ). Fits (designOf (now (c .before .before .before .before .before .before .before .before .before .before .before .args .file))) l) (sym (c .before .before .before .raise .ensures ∙ ap (leastAbove (designOf (now (c .before .before .before .before .before .before .before .before .before .before .before .args .file)))) (c .before .before .before .before .before .before .before .seed .ensures)))
-      (masks-fit (designOf (now (c .before .before .before .before .before .before .before .before .before .before .before .args .file))) (s .sound)),
-)
+tally-of-requires c κs = let args = c .before .before .before .before .before .before .before .before .before .before .before .args in
+    let s = c .before .before .before .before .before .before .before .before .before .before .before .pre .0 in (
+      s,
+      subst (λ (l : List ℕ). Fits (designOf (now (args .file))) l) (sym (c .before .before .before .raise .ensures ∙ ap (leastAbove (designOf (now (args .file)))) (c .before .before .before .before .before .before .before .seed .ensures)))
+          (masks-fit (designOf (now (args .file))) (s .sound)),
+    )
 
 same-length : tie.Need-same-length
 same-length c = search needs

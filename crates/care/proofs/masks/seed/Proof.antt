@@ -38,22 +38,25 @@ loop-less : tie.Need-loop-less Inv-loop μ-loop
 loop-less c = let e = c .before .before .loop .inv .1 in let t = c .before .loop-test .taken in omega arith
 
 loop-again : tie.Need-loop-again Inv-loop μ-loop
-loop-again c = let e = c .before .before .loop .inv .1 in
+loop-again c = let loop = c .before .before .loop in
+    let e = loop .inv .1 in
     let t = c .before .loop-test .taken in (
       omega arith,
-      length-set (c .before .before .loop .list) (c .before .before .loop .i) (c .seed-at .result) ∙ e,
-      filled-next (outputSeed (designOf (now (c .before .before .before .before .before .args .file)))) (c .before .before .loop .list) (c .before .before .loop .i) (c .seed-at .result) (c .before .before .loop .inv .2) t (c .seed-at .ensures),
+      length-set (loop .list) (loop .i) (c .seed-at .result) ∙ e,
+      filled-next (outputSeed (designOf (now (c .before .before .before .before .before .args .file)))) (loop .list) (loop .i) (c .seed-at .result) (loop .inv .2) t (c .seed-at .ensures),
     )
 
 same-length : tie.Need-same-length Inv-loop μ-loop
 same-length c = c .before .loop .inv .1 ∙ sym (c .before .before .before .before .pre .1)
 
 returns : tie.Need-returns Inv-loop μ-loop
-returns c = let e = c .before .loop .inv .1 in
+returns c = let args = c .before .before .before .before .args in
+    let loop = c .before .loop in
+    let e = loop .inv .1 in
     let t = c .loop-test .left in
-    let g = c .before .loop .inv .0 in
-    filled-all (outputSeed (designOf (now (c .before .before .before .before .args .file)))) _ (c .before .loop .list) e
-    (subst (λ (n : ℕ). Filled (outputSeed (designOf (now (c .before .before .before .before .args .file)))) (c .before .loop .list) n) (let q : c .before .loop .i ≡ countOf (now (c .before .before .before .before .args .file)) = omega arith in q) (c .before .loop .inv .2))
+    let g = loop .inv .0 in
+    filled-all (outputSeed (designOf (now (args .file)))) _ (loop .list) e
+    (subst (λ (n : ℕ). Filled (outputSeed (designOf (now (args .file)))) (loop .list) n) (let q : loop .i ≡ countOf (now (args .file)) = omega arith in q) (loop .inv .2))
 
 pub seed-spec : {M : Type 1} → statement M
 seed-spec =

@@ -13,7 +13,8 @@ use Rattle.care.proofs.masks.seed_at.Statement.{statement}
 use Rattle.care.proofs.masks.seed_at.Tie as tie
 
 record-at-requires : tie.Need-record-at-requires
-record-at-requires c κs = holds-record (now (c .before .args .file)) (c .before .pre .0) (c .before .args .i) (c .before .pre .1)
+record-at-requires c κs = let args = c .before .args in
+    holds-record (now (args .file)) (c .before .pre .0) (args .i) (c .before .pre .1)
 
 uses-requires : tie.Need-uses-requires
 uses-requires c κs = tt

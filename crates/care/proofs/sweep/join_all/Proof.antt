@@ -42,8 +42,9 @@ returns-2 c = let a = c .before .before .before .before .before .before .before 
     )
 
 join-requires-2 : tie.Need-join-requires-2
-join-requires-2 c κs = let r = c .before .before .before .before .before .before .before .before .args .asks in
-    let l = now (c .before .before .before .before .before .before .before .before .args .list) in
+join-requires-2 c κs = let args = c .before .before .before .before .before .before .before .before .args in
+    let r = args .asks in
+    let l = now (args .list) in
     let p = c .before .before .before .before .before .before .before .before .pre in
     kept-in l _ (r .first) (r .second .operand) (named-first (r .first) (r .second) (r .third) _ (r .count) (c .before .before .before .before .before .before .if1 .left) p) (c .before .before .before .before .join .ensures .0)
     (named-second (r .first) (r .second) (r .third) _ (r .count) (c .before .before .before .before .before .before .if1 .left) (c .before .if2 .left) p)
@@ -63,8 +64,9 @@ returns-3 c = let a = c .before .before .before .before .before .before .before 
     )
 
 join-requires-3 : tie.Need-join-requires-3
-join-requires-3 c κs = let r = c .before .before .before .before .before .before .before .before .before .before .before .before .before .args .asks in
-    let l = now (c .before .before .before .before .before .before .before .before .before .before .before .before .before .args .list) in
+join-requires-3 c κs = let args = c .before .before .before .before .before .before .before .before .before .before .before .before .before .args in
+    let r = args .asks in
+    let l = now (args .list) in
     let p = c .before .before .before .before .before .before .before .before .before .before .before .before .before .pre in
     let x = named-first (r .first) (r .second) (r .third) _ (r .count) (c .before .before .before .before .before .before .before .before .before .before .before .if1 .left) p in
     let e = c .before .before .before .before .before .before .before .before .before .join .ensures .0 in

@@ -10,7 +10,8 @@ use Rattle.signal.specs.declared.asks.Asks.{Asks}
 use Rattle.signal.specs.Asks.{asked}
 use Rattle.signal.specs.Held.{listed, Serves}
 use Rattle.rules.specs.Sound.{Sound}
-use Rattle.care.proofs.SweepLaws.{Sweeping, sweep-begins, sweep-step, sweep-ends, serves-grant, serves-marks, serves-named}
+use Rattle.care.proofs.NoBits.{serves-grant, serves-marks, serves-named}
+use Rattle.care.proofs.SweepLaws.{Sweeping, sweep-begins, sweep-step, sweep-ends}
 use Rattle.care.proofs.Rounds.{asked-named}
 use Rattle.care.specs.Sweep.{marksOf}
 use Rattle.care.specs.Least.{grant, maskAt}
@@ -37,7 +38,8 @@ abbrev μ-loop : tie.MeasureT-loop
 
 loop-holds : tie.Need-loop-holds Inv-loop μ-loop
 unfolding designOf
-loop-holds c = let p = c .before .before .before .pre .0 in (omega arith, sweep-begins (designOf (now (c .before .before .before .args .file))) _ (c .before .before .before .args .top) (p .fits) (p .settled))
+loop-holds c = let args = c .before .before .before .args in
+    let p = c .before .before .before .pre .0 in (omega arith, sweep-begins (designOf (now (args .file))) _ (args .top) (p .fits) (p .settled))
 
 sub-i : tie.Need-sub-i Inv-loop μ-loop
 sub-i c = omega arith
@@ -51,14 +53,16 @@ unfolding designOf
 slice-read-asked c = let e = c .before .before .loop .inv .1 .size in let l = c .before .before .before .before .before .before .pre .0 .low in let i = c .before .before .loop .inv .0 in omega arith
 
 asked-requires : tie.Need-asked-requires Inv-loop μ-loop
-asked-requires c κs = (c .before .before .before .before .before .before .pre .0 .accepted, let l = c .before .before .before .before .before .before .pre .0 .low in omega arith, c .before .before .before .before .before .before .pre .1)
+asked-requires c κs = let pre = c .before .before .before .before .before .before .pre in
+    (pre .0 .accepted, let l = pre .0 .low in omega arith, pre .1)
 
 join-all-requires : tie.Need-join-all-requires Inv-loop μ-loop
 unfolding designOf
-join-all-requires c κs = let f = now (c .before .before .before .before .before .before .before .before .args .file) in
-    let w = c .before .before .before .before .loop .inv .1 in
-    let h : c .before .before .before .before .loop .i - 1 < countOf f = let l = c .before .before .before .before .before .before .before .before .pre .0 .low in let i = c .before .before .before .before .loop .inv .0 in let t = c .before .before .before .loop-test .taken in omega arith in
-    serves-named _ (c .before .asked .result) _ (c .before .asked .ensures) (asked-named (designOf f) (c .before .before .before .before .before .before .before .before .pre .0 .accepted .sound) (c .before .before .before .before .loop .list) (w .size) (c .before .before .before .before .loop .i - 1) h (maskAt (c .before .before .before .before .loop .list) (c .before .before .before .before .loop .i - 1)))
+join-all-requires c κs = let loop = c .before .before .before .before .loop in
+    let f = now (c .before .before .before .before .before .before .before .before .args .file) in
+    let w = loop .inv .1 in
+    let h : loop .i - 1 < countOf f = let l = c .before .before .before .before .before .before .before .before .pre .0 .low in let i = loop .inv .0 in let t = c .before .before .before .loop-test .taken in omega arith in
+    serves-named _ (c .before .asked .result) _ (c .before .asked .ensures) (asked-named (designOf f) (c .before .before .before .before .before .before .before .before .pre .0 .accepted .sound) (loop .list) (w .size) (loop .i - 1) h (maskAt (loop .list) (loop .i - 1)))
 
 loop-less : tie.Need-loop-less Inv-loop μ-loop
 loop-less c = omega arith
@@ -76,7 +80,9 @@ same-length : tie.Need-same-length Inv-loop μ-loop
 same-length c = c .before .loop .inv .1 .size ∙ sym (c .before .before .before .before .before .pre .0 .fits .size)
 
 returns : tie.Need-returns Inv-loop μ-loop
-returns c = sweep-ends _ _ _ _ (subst (λ (n : ℕ). Sweeping (designOf (now (c .before .before .before .before .before .args .file))) (now (c .before .before .before .before .before .args .list)) (c .before .loop .list) (c .before .loop .again) n) (let t = c .loop-test .left in omega arith) (c .before .loop .inv .1))
+returns c = let args = c .before .before .before .before .before .args in
+    let loop = c .before .loop in
+    sweep-ends _ _ _ _ (subst (λ (n : ℕ). Sweeping (designOf (now (args .file))) (now (args .list)) (loop .list) (loop .again) n) (let t = c .loop-test .left in omega arith) (loop .inv .1))
 
 pub sweep-spec : {M : Type 1} → statement M
 sweep-spec =

@@ -12,10 +12,12 @@ low-mask-requires : tie.Need-low-mask-requires
 low-mask-requires c κs = search needs
 
 returns : tie.Need-returns
-returns c = sym (ap (λ (t : Bool). cond t 0 (lowMask (c .before .args .w))) (eq-eqb (c .before .args .d) 0 (c .if1 .taken)))
+returns c = let args = c .before .args in
+    sym (ap (λ (t : Bool). cond t 0 (lowMask (args .w))) (eq-eqb (args .d) 0 (c .if1 .taken)))
 
 returns-2 : tie.Need-returns-2
-returns-2 c = c .low-mask .ensures ∙ sym (ap (λ (t : Bool). cond t 0 (lowMask (c .before .before .args .w))) (ne-eqb (c .before .before .args .d) 0 (c .before .if1 .left)))
+returns-2 c = let args = c .before .before .args in
+    c .low-mask .ensures ∙ sym (ap (λ (t : Bool). cond t 0 (lowMask (args .w))) (ne-eqb (args .d) 0 (c .before .if1 .left)))
 
 pub all-if-any-spec : {M : Type 1} → statement M
 all-if-any-spec = tie.close (tie.spec low-mask-requires returns returns-2)

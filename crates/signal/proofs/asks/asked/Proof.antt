@@ -17,33 +17,40 @@ use Rattle.signal.proofs.asks.asked.Statement.{statement}
 use Rattle.signal.proofs.asks.asked.Tie as tie
 
 keep-at-requires : tie.Need-keep-at-requires
-keep-at-requires c κs = holds-record (now (c .before .before .args .file)) (c .before .before .pre .0) (c .before .before .args .i) (c .before .before .pre .1)
+keep-at-requires c κs = let args = c .before .before .args in
+    holds-record (now (args .file)) (c .before .before .pre .0) (args .i) (c .before .before .pre .1)
 
 is-quiet-requires : tie.Need-is-quiet-requires
-is-quiet-requires c κs = holds-record (now (c .before .before .before .before .args .file)) (c .before .before .before .before .pre .0) (c .before .before .before .before .args .i) (c .before .before .before .before .pre .1)
+is-quiet-requires c κs = let args = c .before .before .before .before .args in
+    holds-record (now (args .file)) (c .before .before .before .before .pre .0) (args .i) (c .before .before .before .before .pre .1)
 
 none-requires : tie.Need-none-requires
 none-requires c κs = tt
 
 returns : tie.Need-returns
 unfolding asked designOf recordAt
-returns c = let at = designOf (now (c .before .before .before .before .before .before .before .args .file)) .at in
-    let i = c .before .before .before .before .before .before .before .args .i in
-    let d = sym (ap (bitAnd (c .before .before .before .before .before .before .before .args .m)) (c .before .before .before .before .keep-at .ensures)) ∙ c .before .before .before .if1 .taken in
+returns c = let args = c .before .before .before .before .before .before .before .args in
+    let at = designOf (now (args .file)) .at in
+    let i = args .i in
+    let d = sym (ap (bitAnd (args .m)) (c .before .before .before .before .keep-at .ensures)) ∙ c .before .before .before .if1 .taken in
     inr (c .none .ensures, subst (λ (x : ℕ). NoBit (asksOf at (at i .kind) x)) (sym d) (asks-quiet at (at i .kind) (ltb-true _ _ (sym (c .before .before .is-quiet .ensures) ∙ c .before .if2 .taken))))
 
 record-at-requires : tie.Need-record-at-requires
-record-at-requires c κs = holds-record (now (c .before .before .before .before .args .file)) (c .before .before .before .before .pre .0) (c .before .before .before .before .args .i) (c .before .before .before .before .pre .1)
+record-at-requires c κs = let args = c .before .before .before .before .args in
+    holds-record (now (args .file)) (c .before .before .before .before .pre .0) (args .i) (c .before .before .before .before .pre .1)
 
 of-kind-requires : tie.Need-of-kind-requires
 unfolding designOf
-of-kind-requires c κs = (subst (λ (r : Record). Readable (now (c .before .before .before .before .before .args .file)) (r .kind)) (sym (c .record-at .ensures)) (readable (now (c .before .before .before .before .before .args .file)) (c .before .before .before .before .before .pre .0) (c .before .before .before .before .before .args .i) (c .before .before .before .before .before .pre .1)), c .before .before .before .before .before .pre .2)
+of-kind-requires c κs = let args = c .before .before .before .before .before .args in
+    let pre = c .before .before .before .before .before .pre in
+    (subst (λ (r : Record). Readable (now (args .file)) (r .kind)) (sym (c .record-at .ensures)) (readable (now (args .file)) (pre .0) (args .i) (pre .1)), pre .2)
 
 returns-2 : tie.Need-returns-2
 unfolding asked designOf recordAt
-returns-2 c = inl
-    (c .of-kind .ensures ∙ ap (λ (r : Record). asksOf (designOf (now (c .before .before .before .before .before .before .args .file)) .at) (r .kind) (bitAnd (c .before .before .before .before .before .before .args .m) (c .before .before .before .keep-at .result))) (c .before .record-at .ensures)
-    ∙ ap (λ (x : ℕ). asksOf (designOf (now (c .before .before .before .before .before .before .args .file)) .at) (designOf (now (c .before .before .before .before .before .before .args .file)) .at (c .before .before .before .before .before .before .args .i) .kind) (bitAnd (c .before .before .before .before .before .before .args .m) x)) (c .before .before .before .keep-at .ensures))
+returns-2 c = let args = c .before .before .before .before .before .before .args in
+    inl
+    (c .of-kind .ensures ∙ ap (λ (r : Record). asksOf (designOf (now (args .file)) .at) (r .kind) (bitAnd (args .m) (c .before .before .before .keep-at .result))) (c .before .record-at .ensures)
+    ∙ ap (λ (x : ℕ). asksOf (designOf (now (args .file)) .at) (designOf (now (args .file)) .at (args .i) .kind) (bitAnd (args .m) x)) (c .before .before .before .keep-at .ensures))
 
 pub asked-spec : {M : Type 1} → statement M
 asked-spec =
