@@ -21,27 +21,37 @@ slice-aggregate-fill c = let args = c .before .before .before .args in
 
 fill-requires : tie.Need-fill-requires
 fill-requires c κs = let args = c .before .before .before .args in
+    let file = now (args .file) in
     let a = c .before .before .before .pre .0 in
-    (subst (λ (n : ℕ). Acceptance (now (args .file)) n) (a .count) a, length-take-le (args .n) _ (few (now (args .file)) (args .n) a) ∙ a .count)
+    (subst (λ (n : ℕ). Acceptance file n) (a .count) a, length-take-le (args .n) _ (few file (args .n) a) ∙ a .count)
 
 array-share-prefix-words : tie.Need-array-share-prefix-words
 array-share-prefix-words c = let args = c .before .before .before .before .before .before .args in
-    front-within (now (args .file)) (args .n) (c .before .before .before .before .before .before .pre .0) (c .before .before .fill .last .1 .0) (c .before .before .fill .ensures .1) _
+    front-within (now (args .file)) (args .n) (c .before .before .before .before .before .before .pre .0) (c .before .before .fill .last .1 .0)
+    (c .before .before .fill .ensures .1) _
 
 slice-aggregate-write-words : tie.Need-slice-aggregate-write-words
 slice-aggregate-write-words c = let args = c .before .before .before .before .before .before .before .args in
-    taken-length (now (args .file)) (args .n) (c .before .before .before .before .before .before .before .pre .0) (c .before .before .before .fill .last .1 .0) (c .before .before .before .fill .ensures .1) _
+    taken-length (now (args .file)) (args .n) (c .before .before .before .before .before .before .before .pre .0) (c .before .before .before .fill .last .1 .0)
+    (c .before .before .before .fill .ensures .1) _
 
 write-words-requires : tie.Need-write-words-requires
 write-words-requires c κs = let args = c .before .before .before .before .before .before .before .args in
-    c .before .before .before .before .before .before .before .pre .1 ∙ ap (λ (n : ℕ). 8 * n) (taken-length (now (args .file)) (args .n) (c .before .before .before .before .before .before .before .pre .0) (c .before .before .before .fill .last .1 .0) (c .before .before .before .fill .ensures .1) _)
+    c .before .before .before .before .before .before .before .pre .1 ∙ ap (λ (n : ℕ). 8 * n)
+    (taken-length (now (args .file)) (args .n) (c .before .before .before .before .before .before .before .pre .0) (c .before .before .before .fill .last .1 .0)
+    (c .before .before .before .fill .ensures .1) _)
 
 same-length : tie.Need-same-length
 same-length c = search needs
 
 returns : tie.Need-returns
-returns c = let args = c .before .before .before .before .before .before .before .before .before .before .args in
-    (c .before .before .before .before .before .before .fill .ensures .0, c .before .before .write-words .ensures ∙ ap wordBytes (front-taken (now (args .file)) (args .n) (c .before .before .before .before .before .before .before .before .before .before .pre .0) (c .before .before .before .before .before .before .fill .last .1 .0) (c .before .before .before .before .before .before .fill .ensures .1) _ ∙ c .before .before .before .before .before .before .fill .ensures .1))
+returns c = let args = c .before .before .before .before .before .before .before .before .before .before .args in (
+  c .before .before .before .before .before .before .fill .ensures .0,
+  c .before .before .write-words .ensures ∙ ap wordBytes
+      (front-taken (now (args .file)) (args .n) (c .before .before .before .before .before .before .before .before .before .before .pre .0)
+      (c .before .before .before .before .before .before .fill .last .1 .0) (c .before .before .before .before .before .before .fill .ensures .1) _
+      ∙ c .before .before .before .before .before .before .fill .ensures .1),
+)
 
 pub fill-buffer-spec : {M : Type 1} → statement M
 fill-buffer-spec =

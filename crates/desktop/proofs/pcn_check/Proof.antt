@@ -23,7 +23,11 @@ number-requires : tie.Need-number-requires
 number-requires c κs = search needs
 
 refused-requires : tie.Need-refused-requires
-refused-requires c κs = (c .number .ensures .1, let h = refused-low (now (c .before .before .before .before .before .before .args .file)) _ _ (sym (c .before .before .before .before .check .ensures) ∙ c .before .before .r .given .1) in omega arith)
+refused-requires c κs = (
+  c .number .ensures .1,
+  let h = refused-low (now (c .before .before .before .before .before .before .args .file)) _ _
+      (sym (c .before .before .before .before .check .ensures) ∙ c .before .before .r .given .1) in omega arith,
+)
 
 returns : tie.Need-returns
 unfolding checkAnswer
@@ -31,7 +35,8 @@ returns c = sym (ap checkAnswer (sym (c .before .before .before .check .ensures)
 
 returns-2 : tie.Need-returns-2
 unfolding checkAnswer
-returns-2 c = c .refused .ensures ∙ ap (λ (n : ℕ). refusedAnswer n (c .before .before .before .r .given .0 .1 .0)) (c .before .number .ensures .0) ∙ sym (ap checkAnswer (sym (c .before .before .before .before .before .check .ensures) ∙ c .before .before .before .r .given .1))
+returns-2 c = c .refused .ensures ∙ ap (λ (n : ℕ). refusedAnswer n (c .before .before .before .r .given .0 .1 .0)) (c .before .number .ensures .0) ∙ sym
+    (ap checkAnswer (sym (c .before .before .before .before .before .check .ensures) ∙ c .before .before .before .r .given .1))
 
 pub pcn-check-spec : {M : Type 1} → statement M
 pcn-check-spec =

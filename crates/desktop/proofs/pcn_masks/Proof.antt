@@ -26,7 +26,8 @@ enum-known-n c = c .match .keys1
 
 mul-if1 : tie.Need-mul-if1
 unfolding designOf
-mul-if1 c = let a = accepted (now (c .before .before .before .before .before .before .args .file)) _ (sym (c .before .before .before .check .ensures) ∙ c .before .n .given .1) in let f = a .sound .few in let e = a .count in omega arith
+mul-if1 c = let a = accepted (now (c .before .before .before .before .before .before .args .file)) _
+    (sym (c .before .before .before .check .ensures) ∙ c .before .n .given .1) in let f = a .sound .few in let e = a .count in omega arith
 
 number-requires : tie.Need-number-requires
 number-requires c κs = tt
@@ -37,16 +38,25 @@ refused-requires c κs = (c .number .ensures .1, lit< tt)
 returns : tie.Need-returns
 unfolding talliedAnswer masksBuffer
 returns c = let args = c .before .before .before .before .before .before .before .before .before .args in
-    let b = both-of _ _ (call-bad-list (λ n. 8 * n) (now (args .file)) (fillBuffer (designOf (now (args .file)))) (now (args .masks)) (sym (c .before .before .before .before .before .before .check .ensures) ∙ c .before .before .before .before .n .given .1) (λ q. let t = c .before .before .if1 .taken in omega arith)) in
+    let file = now (args .file) in
+    let b = both-of _ _ (call-bad-list (λ n. 8 * n) file (fillBuffer (designOf file)) (now (args .masks))
+    (sym (c .before .before .before .before .before .before .check .ensures) ∙ c .before .before .before .before .n .given .1)
+    (λ q. let t = c .before .before .if1 .taken in omega arith)) in
     (c .refused .ensures ∙ ap (λ (n : ℕ). refusedAnswer n 0) (c .before .number .ensures .0) ∙ ap talliedAnswer (b .0), b .1)
 
 fill-buffer-requires : tie.Need-fill-buffer-requires
-fill-buffer-requires c κs = (accepted (now (c .before .before .before .before .before .before .before .before .args .file)) _ (sym (c .before .before .before .before .before .check .ensures) ∙ c .before .before .before .n .given .1), let t = c .before .if1 .left in omega arith)
+fill-buffer-requires c κs = (
+  accepted (now (c .before .before .before .before .before .before .before .before .args .file)) _
+      (sym (c .before .before .before .before .before .check .ensures) ∙ c .before .before .before .n .given .1),
+  let t = c .before .if1 .left in omega arith,
+)
 
 tallied-requires : tie.Need-tallied-requires
 tallied-requires c κs = let args = c .before .before .before .before .before .before .before .before .before .before .before .args in
-    let a = accepted (now (args .file)) _ (sym (c .before .before .before .before .before .before .before .before .check .ensures) ∙ c .before .before .before .before .before .before .n .given .1) in
-    let d = designOf (now (args .file)) in
+    let file = now (args .file) in
+    let a = accepted file _ (sym (c .before .before .before .before .before .before .before .before .check .ensures)
+    ∙ c .before .before .before .before .before .before .n .given .1) in
+    let d = designOf file in
     let l = tally-low d (a .sound) (masksOf d) (masks-fit d (a .sound)) in
     subst (λ (t : Tally). (t .widths < 2 ^ 31) × (t .ones < 2 ^ 31)) (sym (c .before .before .fill-buffer .ensures .0)) l
 
@@ -57,7 +67,11 @@ number-requires-2 : tie.Need-number-requires-2
 number-requires-2 c κs = tt
 
 refused-requires-2 : tie.Need-refused-requires-2
-refused-requires-2 c κs = (c .number2 .ensures .1, let h = refused-low (now (c .before .before .before .before .before .before .before .args .file)) _ _ (sym (c .before .before .before .before .check .ensures) ∙ c .before .before .r .given .1) in omega arith)
+refused-requires-2 c κs = (
+  c .number2 .ensures .1,
+  let h = refused-low (now (c .before .before .before .before .before .before .before .args .file)) _ _
+      (sym (c .before .before .before .before .check .ensures) ∙ c .before .before .r .given .1) in omega arith,
+)
 
 same-length : tie.Need-same-length
 same-length c = search needs
@@ -65,14 +79,25 @@ same-length c = search needs
 returns-2 : tie.Need-returns-2
 unfolding talliedAnswer masksBuffer
 returns-2 c = let args = c .before .before .before .before .before .before .before .before .before .before .before .before .args in
-    let b = both-of _ _ (call-filled (λ n. 8 * n) (now (args .file)) (fillBuffer (designOf (now (args .file)))) (now (args .masks)) (sym (c .before .before .before .before .before .before .before .before .before .check .ensures) ∙ c .before .before .before .before .before .before .before .n .given .1) (let t = c .before .before .before .before .before .if1 .left in omega arith)) in
-    (c .tallied .ensures ∙ ap tallyAnswer (c .before .before .before .fill-buffer .ensures .0) ∙ ap talliedAnswer (b .0), c .before .before .before .fill-buffer .ensures .1 ∙ b .1)
+    let file = now (args .file) in
+    let b = both-of _ _ (call-filled (λ n. 8 * n) file (fillBuffer (designOf file)) (now (args .masks))
+    (sym (c .before .before .before .before .before .before .before .before .before .check .ensures)
+    ∙ c .before .before .before .before .before .before .before .n .given .1) (let t = c .before .before .before .before .before .if1 .left in omega arith)) in (
+      c .tallied .ensures ∙ ap tallyAnswer (c .before .before .before .fill-buffer .ensures .0) ∙ ap talliedAnswer
+          (b .0),
+      c .before .before .before .fill-buffer .ensures .1 ∙ b .1,
+    )
 
 returns-3 : tie.Need-returns-3
 unfolding talliedAnswer masksBuffer
 returns-3 c = let args = c .before .before .before .before .before .before .before .before .args in
-    let b = both-of _ _ (call-refused (λ n. 8 * n) (now (args .file)) (fillBuffer (designOf (now (args .file)))) (now (args .masks)) (sym (c .before .before .before .before .before .check .ensures) ∙ c .before .before .before .r .given .1)) in
-    (c .refused2 .ensures ∙ ap (λ (n : ℕ). refusedAnswer n (c .before .before .before .r .given .0 .1 .0)) (c .before .number2 .ensures .0) ∙ ap talliedAnswer (b .0), b .1)
+    let file = now (args .file) in
+    let b = both-of _ _ (call-refused (λ n. 8 * n) file (fillBuffer (designOf file)) (now (args .masks))
+    (sym (c .before .before .before .before .before .check .ensures) ∙ c .before .before .before .r .given .1)) in (
+      c .refused2 .ensures ∙ ap (λ (n : ℕ). refusedAnswer n (c .before .before .before .r .given .0 .1 .0)) (c .before .number2 .ensures .0) ∙ ap talliedAnswer
+          (b .0),
+      b .1,
+    )
 
 pub pcn-masks-spec : {M : Type 1} → statement M
 pcn-masks-spec =

@@ -20,24 +20,31 @@ slice-aggregate-fill c = let args = c .before .before .args in
 
 fill-requires : tie.Need-fill-requires
 fill-requires c κs = let args = c .before .before .args in
+    let file = now (args .file) in
     let a = c .before .before .pre in
-    (subst (λ (n : ℕ). Acceptance (now (args .file)) n) (a .count) a, length-take-le (args .n) _ (few (now (args .file)) (args .n) a) ∙ a .count)
+    (subst (λ (n : ℕ). Acceptance file n) (a .count) a, length-take-le (args .n) _ (few file (args .n) a) ∙ a .count)
 
 print-tally-requires : tie.Need-print-tally-requires
 print-tally-requires c κs = search needs
 
 array-share-prefix-words : tie.Need-array-share-prefix-words
 array-share-prefix-words c = let args = c .before .before .before .before .before .args in
-    front-within (now (args .file)) (args .n) (c .before .before .before .before .before .pre) (c .before .before .fill .last .1 .0) (c .before .before .fill .ensures .1) _
+    front-within (now (args .file)) (args .n) (c .before .before .before .before .before .pre) (c .before .before .fill .last .1 .0)
+    (c .before .before .fill .ensures .1) _
 
 slice-aggregate-print-masks : tie.Need-slice-aggregate-print-masks
 slice-aggregate-print-masks c = let args = c .before .before .before .before .before .before .args in
-    taken-length (now (args .file)) (args .n) (c .before .before .before .before .before .before .pre) (c .before .before .before .fill .last .1 .0) (c .before .before .before .fill .ensures .1) _
+    taken-length (now (args .file)) (args .n) (c .before .before .before .before .before .before .pre) (c .before .before .before .fill .last .1 .0)
+    (c .before .before .before .fill .ensures .1) _
 
 print-masks-requires : tie.Need-print-masks-requires
 print-masks-requires c κs = let args = c .before .before .before .before .before .before .args in
-    let a = c .before .before .before .before .before .before .pre in
-    (subst (λ (n : ℕ). Acceptance (now (args .file)) n) (a .count) a, sym (taken-length (now (args .file)) (args .n) a (c .before .before .before .fill .last .1 .0) (c .before .before .before .fill .ensures .1) _) ∙ a .count)
+    let file = now (args .file) in
+    let a = c .before .before .before .before .before .before .pre in (
+      subst (λ (n : ℕ). Acceptance file n) (a .count) a,
+      sym (taken-length file (args .n) a (c .before .before .before .fill .last .1 .0)
+          (c .before .before .before .fill .ensures .1) _) ∙ a .count,
+    )
 
 returns : tie.Need-returns
 returns c = search needs

@@ -18,7 +18,8 @@ loop-holds : tie.Need-loop-holds Inv-loop μ-loop
 loop-holds c = omega arith
 
 width-at-requires : tie.Need-width-at-requires Inv-loop μ-loop
-width-at-requires c κs = holds-record (now (c .before .before .before .before .args .file)) (c .before .before .before .before .pre .0) (c .before .loop .i) (let e = c .before .before .before .before .pre .1 in let t = c .loop-test .taken in omega arith)
+width-at-requires c κs = holds-record (now (c .before .before .before .before .args .file)) (c .before .before .before .before .pre .0) (c .before .loop .i)
+    (let e = c .before .before .before .before .pre .1 in let t = c .loop-test .taken in omega arith)
 
 mul-print-mask : tie.Need-mul-print-mask Inv-loop μ-loop
 unfolding designOf

@@ -14,7 +14,8 @@ enum-known-n : tie.Need-enum-known-n
 enum-known-n c = c .match .keys1
 
 print-accepted-requires : tie.Need-print-accepted-requires
-print-accepted-requires c κs = accepted (now (c .before .before .before .before .before .args .file)) _ (sym (c .before .before .before .check .ensures) ∙ c .before .n .given .1)
+print-accepted-requires c κs = accepted (now (c .before .before .before .before .before .args .file)) _
+    (sym (c .before .before .before .check .ensures) ∙ c .before .n .given .1)
 
 enum-known-r : tie.Need-enum-known-r
 enum-known-r c = c .match .keys2

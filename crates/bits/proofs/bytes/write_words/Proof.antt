@@ -49,7 +49,8 @@ loop-less c = let t = c .before .before .before .before .before .loop-test .take
 
 loop-again : tie.Need-loop-again Inv-loop μ-loop
 loop-again c = let loop = c .before .before .before .before .before .before .loop in
-    written-next (now (c .before .before .before .before .before .before .before .before .before .args .words)) (loop .d) (c .before .before .write-64 .last .0) (loop .i) _ (loop .inv) (c .before .before .before .before .before .loop-test .taken) refl (c .before .before .write-64 .ensures)
+    written-next (now (c .before .before .before .before .before .before .before .before .before .args .words)) (loop .d) (c .before .before .write-64 .last .0)
+    (loop .i) _ (loop .inv) (c .before .before .before .before .before .loop-test .taken) refl (c .before .before .write-64 .ensures)
 
 same-length : tie.Need-same-length Inv-loop μ-loop
 same-length c = c .before .loop .inv .size ∙ sym (c .before .before .before .before .pre)

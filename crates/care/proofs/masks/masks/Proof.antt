@@ -23,12 +23,15 @@ enum-known-n c = c .match .keys1
 returns : tie.Need-returns
 unfolding masksCall
 returns c = let args = c .before .before .before .before .before .before .before .args in
-    both-of _ _ (call-bad-list (λ n. n) (now (args .file)) (fillMasks (designOf (now (args .file)))) (now (args .list)) (sym (c .before .before .before .before .check .ensures) ∙ c .before .before .n .given .1) (λ q. let t = c .if1 .taken in omega arith))
+    let file = now (args .file) in
+    both-of _ _ (call-bad-list (λ n. n) file (fillMasks (designOf file)) (now (args .list))
+    (sym (c .before .before .before .before .check .ensures) ∙ c .before .before .n .given .1) (λ q. let t = c .if1 .taken in omega arith))
 
 fill-requires : tie.Need-fill-requires
 fill-requires c κs = let args = c .before .before .before .before .before .before .before .before .args in
-    let a = accepted (now (args .file)) _ (sym (c .before .before .before .before .before .check .ensures) ∙ c .before .before .before .n .given .1) in
-    (subst (λ (n : ℕ). Acceptance (now (args .file)) n) (a .count) a, let t = c .before .if1 .left in let e = a .count in omega arith)
+    let file = now (args .file) in
+    let a = accepted file _ (sym (c .before .before .before .before .before .check .ensures) ∙ c .before .before .before .n .given .1) in
+    (subst (λ (n : ℕ). Acceptance file n) (a .count) a, let t = c .before .if1 .left in let e = a .count in omega arith)
 
 enum-known-r : tie.Need-enum-known-r
 enum-known-r c = c .match .keys2
@@ -39,13 +42,18 @@ same-length c = search needs
 returns-2 : tie.Need-returns-2
 unfolding masksCall
 returns-2 c = let args = c .before .before .before .before .before .before .before .before .before .before .before .args in
-    let b = both-of _ _ (call-filled (λ n. n) (now (args .file)) (fillMasks (designOf (now (args .file)))) (now (args .list)) (sym (c .before .before .before .before .before .before .before .before .check .ensures) ∙ c .before .before .before .before .before .before .n .given .1) (let t = c .before .before .before .before .if1 .left in omega arith)) in
+    let file = now (args .file) in
+    let b = both-of _ _ (call-filled (λ n. n) file (fillMasks (designOf file)) (now (args .list))
+    (sym (c .before .before .before .before .before .before .before .before .check .ensures) ∙ c .before .before .before .before .before .before .n .given .1)
+    (let t = c .before .before .before .before .if1 .left in omega arith)) in
     (ap Done (c .before .before .fill .ensures .0) ∙ b .0, c .before .before .fill .ensures .1 ∙ b .1)
 
 returns-3 : tie.Need-returns-3
 unfolding masksCall
 returns-3 c = let args = c .before .before .before .before .before .before .args in
-    both-of _ _ (call-refused (λ n. n) (now (args .file)) (fillMasks (designOf (now (args .file)))) (now (args .list)) (sym (c .before .before .before .check .ensures) ∙ c .before .r .given .1))
+    let file = now (args .file) in
+    both-of _ _ (call-refused (λ n. n) file (fillMasks (designOf file)) (now (args .list))
+    (sym (c .before .before .before .check .ensures) ∙ c .before .r .given .1))
 
 pub masks-spec : {M : Type 1} → statement M
 masks-spec =

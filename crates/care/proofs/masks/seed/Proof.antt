@@ -43,7 +43,8 @@ loop-again c = let loop = c .before .before .loop in
     let t = c .before .loop-test .taken in (
       omega arith,
       length-set (loop .list) (loop .i) (c .seed-at .result) ∙ e,
-      filled-next (outputSeed (designOf (now (c .before .before .before .before .before .args .file)))) (loop .list) (loop .i) (c .seed-at .result) (loop .inv .2) t (c .seed-at .ensures),
+      filled-next (outputSeed (designOf (now (c .before .before .before .before .before .args .file)))) (loop .list) (loop .i) (c .seed-at .result) (loop .inv .2) t
+          (c .seed-at .ensures),
     )
 
 same-length : tie.Need-same-length Inv-loop μ-loop
@@ -51,12 +52,13 @@ same-length c = c .before .loop .inv .1 ∙ sym (c .before .before .before .befo
 
 returns : tie.Need-returns Inv-loop μ-loop
 returns c = let args = c .before .before .before .before .args in
+    let file = now (args .file) in
     let loop = c .before .loop in
     let e = loop .inv .1 in
     let t = c .loop-test .left in
     let g = loop .inv .0 in
-    filled-all (outputSeed (designOf (now (args .file)))) _ (loop .list) e
-    (subst (λ (n : ℕ). Filled (outputSeed (designOf (now (args .file)))) (loop .list) n) (let q : loop .i ≡ countOf (now (args .file)) = omega arith in q) (loop .inv .2))
+    filled-all (outputSeed (designOf file)) _ (loop .list) e
+    (subst (λ (n : ℕ). Filled (outputSeed (designOf file)) (loop .list) n) (let q : loop .i ≡ countOf file = omega arith in q) (loop .inv .2))
 
 pub seed-spec : {M : Type 1} → statement M
 seed-spec =

@@ -21,11 +21,13 @@ uses-requires c κs = tt
 
 seed-of-requires : tie.Need-seed-of-requires
 unfolding designOf
-seed-of-requires c κs = subst (λ (r : Record). r .width ≤ 64) (sym (c .before .record-at .ensures)) (c .before .before .before .pre .0 .sound .each (c .before .before .before .args .i) (c .before .before .before .pre .1) .narrow)
+seed-of-requires c κs = subst (λ (r : Record). r .width ≤ 64) (sym (c .before .record-at .ensures))
+    (c .before .before .before .pre .0 .sound .each (c .before .before .before .args .i) (c .before .before .before .pre .1) .narrow)
 
 returns : tie.Need-returns
 unfolding designOf
-returns c = c .seed-of .ensures ∙ ap (λ (u : Uses). seedOf (u .role) (c .before .before .record-at .result .width)) (c .before .uses .ensures) ∙ ap (λ (r : Record). seedOf (usesOf (r .kind) .role) (r .width)) (c .before .before .record-at .ensures)
+returns c = c .seed-of .ensures ∙ ap (λ (u : Uses). seedOf (u .role) (c .before .before .record-at .result .width)) (c .before .uses .ensures) ∙ ap
+    (λ (r : Record). seedOf (usesOf (r .kind) .role) (r .width)) (c .before .before .record-at .ensures)
 
 pub seed-at-spec : {M : Type 1} → statement M
 seed-at-spec = tie.close (tie.spec record-at-requires uses-requires seed-of-requires returns)

@@ -25,10 +25,15 @@ kept-in list after x j h e g = subst (λ (l : List ℕ). j < length l) (sym e) (
 
 returns : tie.Need-returns
 unfolding grant marksOf
-returns c = let a = c .before .before .args in (ap (λ (k : ℕ). grant (counted (a .asks) k) (now (a .list))) (sym (c .if1 .taken)), ap (λ (k : ℕ). marksOf (a .i) (a .again) (counted (a .asks) k) (now (a .list))) (sym (c .if1 .taken)))
+returns c = let a = c .before .before .args in (
+  ap (λ (k : ℕ). grant (counted (a .asks) k) (now (a .list))) (sym (c .if1 .taken)),
+  ap
+      (λ (k : ℕ). marksOf (a .i) (a .again) (counted (a .asks) k) (now (a .list))) (sym (c .if1 .taken)),
+)
 
 join-requires : tie.Need-join-requires
-join-requires c κs = let r = c .before .before .before .args .asks in named-first (r .first) (r .second) (r .third) _ (r .count) (c .before .if1 .left) (c .before .before .before .pre)
+join-requires c κs = let r = c .before .before .before .args .asks in named-first (r .first) (r .second) (r .third) _ (r .count) (c .before .if1 .left)
+    (c .before .before .before .pre)
 
 same-length : tie.Need-same-length
 same-length c = search needs
@@ -46,7 +51,8 @@ join-requires-2 c κs = let args = c .before .before .before .before .before .be
     let r = args .asks in
     let l = now (args .list) in
     let p = c .before .before .before .before .before .before .before .before .pre in
-    kept-in l _ (r .first) (r .second .operand) (named-first (r .first) (r .second) (r .third) _ (r .count) (c .before .before .before .before .before .before .if1 .left) p) (c .before .before .before .before .join .ensures .0)
+    kept-in l _ (r .first) (r .second .operand) (named-first (r .first) (r .second) (r .third) _ (r .count)
+    (c .before .before .before .before .before .before .if1 .left) p) (c .before .before .before .before .join .ensures .0)
     (named-second (r .first) (r .second) (r .third) _ (r .count) (c .before .before .before .before .before .before .if1 .left) (c .before .if2 .left) p)
 
 same-length-2 : tie.Need-same-length-2
@@ -70,9 +76,14 @@ join-requires-3 c κs = let args = c .before .before .before .before .before .be
     let p = c .before .before .before .before .before .before .before .before .before .before .before .before .before .pre in
     let x = named-first (r .first) (r .second) (r .third) _ (r .count) (c .before .before .before .before .before .before .before .before .before .before .before .if1 .left) p in
     let e = c .before .before .before .before .before .before .before .before .before .join .ensures .0 in
-    let y = kept-in l _ (r .first) (r .second .operand) x e (named-second (r .first) (r .second) (r .third) _ (r .count) (c .before .before .before .before .before .before .before .before .before .before .before .if1 .left) (c .before .before .before .before .before .before .if2 .left) p) in
-    kept-in (c .before .before .before .before .before .before .before .before .before .join .last .0) (c .before .before .before .before .join2 .last .0) (r .second) (r .third .operand) y (c .before .before .before .before .join2 .ensures .0)
-    (kept-in l _ (r .first) (r .third .operand) x e (named-third (r .first) (r .second) (r .third) _ (r .count) (c .before .before .before .before .before .before .before .before .before .before .before .if1 .left) (c .before .before .before .before .before .before .if2 .left) (c .before .if3 .left) p))
+    let y = kept-in l _ (r .first) (r .second .operand) x e (named-second (r .first) (r .second) (r .third) _ (r .count)
+    (c .before .before .before .before .before .before .before .before .before .before .before .if1 .left)
+    (c .before .before .before .before .before .before .if2 .left) p) in
+    kept-in (c .before .before .before .before .before .before .before .before .before .join .last .0) (c .before .before .before .before .join2 .last .0)
+    (r .second) (r .third .operand) y (c .before .before .before .before .join2 .ensures .0)
+    (kept-in l _ (r .first) (r .third .operand) x e (named-third (r .first) (r .second) (r .third) _ (r .count)
+    (c .before .before .before .before .before .before .before .before .before .before .before .if1 .left)
+    (c .before .before .before .before .before .before .if2 .left) (c .before .if3 .left) p))
 
 same-length-3 : tie.Need-same-length-3
 same-length-3 c = search needs

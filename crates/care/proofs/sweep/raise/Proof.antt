@@ -40,7 +40,9 @@ sweep-requires : tie.Need-sweep-requires Inv-loop μ-loop
 sweep-requires c κs = (c .before .before .loop .inv .0, c .before .before .before .low-table .ensures)
 
 loop-less : tie.Need-loop-less Inv-loop μ-loop
-loop-less c = let r = c .before .before .before .before .before .before .loop .inv .0 in uncared-less (designOf (now (c .before .before .before .before .before .before .before .before .before .before .args .file))) (r .accepted .sound) _ _ _ (r .fits) (c .before .before .before .sweep .ensures) (λ z. let t = c .if1 .left in omega arith)
+loop-less c = let r = c .before .before .before .before .before .before .loop .inv .0 in uncared-less
+    (designOf (now (c .before .before .before .before .before .before .before .before .before .before .args .file))) (r .accepted .sound) _ _ _ (r .fits)
+    (c .before .before .before .sweep .ensures) (λ z. let t = c .if1 .left in omega arith)
 
 loop-again : tie.Need-loop-again Inv-loop μ-loop
 unfolding designOf
@@ -59,7 +61,8 @@ unfolding designOf
 returns c = let r = c .before .before .before .before .before .before .loop .inv .0 in
     let d = designOf (now (c .before .before .before .before .before .before .before .before .before .before .args .file)) in
     let w = c .before .before .before .sweep .ensures in
-    reached d (r .accepted .sound) _ (c .before .before .before .before .before .before .before .before .before .before .pre .1) _ (between-trans d _ _ _ (c .before .before .before .before .before .before .loop .inv .1) (w .between))
+    reached d (r .accepted .sound) _ (c .before .before .before .before .before .before .before .before .before .before .pre .1) _
+    (between-trans d _ _ _ (c .before .before .before .before .before .before .loop .inv .1) (w .between))
     (λ i h. w .settled i (let t = c .if1 .taken in omega arith) h)
 
 pub raise-spec : {M : Type 1} → statement M

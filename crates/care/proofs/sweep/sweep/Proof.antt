@@ -62,7 +62,9 @@ join-all-requires c κs = let loop = c .before .before .before .before .loop in
     let f = now (c .before .before .before .before .before .before .before .before .args .file) in
     let w = loop .inv .1 in
     let h : loop .i - 1 < countOf f = let l = c .before .before .before .before .before .before .before .before .pre .0 .low in let i = loop .inv .0 in let t = c .before .before .before .loop-test .taken in omega arith in
-    serves-named _ (c .before .asked .result) _ (c .before .asked .ensures) (asked-named (designOf f) (c .before .before .before .before .before .before .before .before .pre .0 .accepted .sound) (loop .list) (w .size) (loop .i - 1) h (maskAt (loop .list) (loop .i - 1)))
+    serves-named _ (c .before .asked .result) _ (c .before .asked .ensures) (asked-named (designOf f)
+    (c .before .before .before .before .before .before .before .before .pre .0 .accepted .sound) (loop .list) (w .size) (loop .i - 1) h
+    (maskAt (loop .list) (loop .i - 1)))
 
 loop-less : tie.Need-loop-less Inv-loop μ-loop
 loop-less c = omega arith
@@ -73,7 +75,10 @@ loop-again c = let f = now (c .before .before .before .before .before .before .b
     let l = c .before .before .before .before .before .before .before .loop in
     let h : l .i - 1 < countOf f = let b = c .before .before .before .before .before .before .before .before .before .before .before .pre .0 .low in let i = l .inv .0 in let t = c .before .before .before .before .before .before .loop-test .taken in omega arith in (
       let i = l .inv .0 in omega arith,
-      turn (designOf f) (c .before .before .before .before .before .before .before .before .before .before .before .pre .0 .accepted .sound) _ (l .list) _ (l .again) _ (l .i - 1) (l .i) (c .before .before .before .before .asked .result) h (let t = c .before .before .before .before .before .before .loop-test .taken in omega arith) (c .before .before .before .before .asked .ensures) (c .before .before .join-all .ensures .0) (c .before .before .join-all .ensures .1) (l .inv .1),
+      turn (designOf f) (c .before .before .before .before .before .before .before .before .before .before .before .pre .0 .accepted .sound) _ (l .list) _
+          (l .again) _ (l .i - 1) (l .i) (c .before .before .before .before .asked .result) h
+          (let t = c .before .before .before .before .before .before .loop-test .taken in omega arith) (c .before .before .before .before .asked .ensures)
+          (c .before .before .join-all .ensures .0) (c .before .before .join-all .ensures .1) (l .inv .1),
     )
 
 same-length : tie.Need-same-length Inv-loop μ-loop
@@ -82,7 +87,8 @@ same-length c = c .before .loop .inv .1 .size ∙ sym (c .before .before .before
 returns : tie.Need-returns Inv-loop μ-loop
 returns c = let args = c .before .before .before .before .before .args in
     let loop = c .before .loop in
-    sweep-ends _ _ _ _ (subst (λ (n : ℕ). Sweeping (designOf (now (args .file))) (now (args .list)) (loop .list) (loop .again) n) (let t = c .loop-test .left in omega arith) (loop .inv .1))
+    sweep-ends _ _ _ _ (subst (λ (n : ℕ). Sweeping (designOf (now (args .file))) (now (args .list)) (loop .list) (loop .again) n)
+    (let t = c .loop-test .left in omega arith) (loop .inv .1))
 
 pub sweep-spec : {M : Type 1} → statement M
 sweep-spec =

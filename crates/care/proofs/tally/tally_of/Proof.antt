@@ -27,16 +27,18 @@ loop-holds c = (omega arith, record { width-sum = refl; ones-sum = refl })
 
 width-at-requires : tie.Need-width-at-requires Inv-loop μ-loop
 unfolding designOf
-width-at-requires c κs = holds-record (now (c .before .before .before .before .args .file)) (c .before .before .before .before .pre .0) (c .before .loop .i) (let e = c .before .before .before .before .pre .1 .size in let t = c .loop-test .taken in omega arith)
+width-at-requires c κs = holds-record (now (c .before .before .before .before .args .file)) (c .before .before .before .before .pre .0) (c .before .loop .i)
+    (let e = c .before .before .before .before .pre .1 .size in let t = c .loop-test .taken in omega arith)
 
 add-widths : tie.Need-add-widths Inv-loop μ-loop
 unfolding designOf recordAt
 add-widths c = let args = c .before .before .before .before .before .args in
+    let file = now (args .file) in
     let loop = c .before .before .loop in
     let a = c .before .before .before .before .before .pre in
-    let b = widths-bound (designOf (now (args .file))) (a .0 .sound) (now (args .list)) (a .1) _ _ (loop .i) (loop .inv .0) (loop .inv .1) in
+    let b = widths-bound (designOf file) (a .0 .sound) (now (args .list)) (a .1) _ _ (loop .i) (loop .inv .0) (loop .inv .1) in
     let n = a .0 .sound .few in
-    let h : loop .i < countOf (now (args .file)) = let e = a .1 .size in let t = c .before .loop-test .taken in omega arith in
+    let h : loop .i < countOf file = let e = a .1 .size in let t = c .before .loop-test .taken in omega arith in
     let w = a .0 .sound .each (loop .i) h .narrow in
     let e = c .width-at .ensures in
     omega arith
@@ -54,12 +56,13 @@ count-ones-requires c κs = tt
 add-ones : tie.Need-add-ones Inv-loop μ-loop
 unfolding designOf
 add-ones c = let args = c .before .before .before .before .before .before .before .args in
+    let file = now (args .file) in
     let loop = c .before .before .before .before .loop in
     let a = c .before .before .before .before .before .before .before .pre in
-    let b = ones-bound (designOf (now (args .file))) (a .0 .sound) (now (args .list)) (a .1) _ _ (loop .i) (loop .inv .0) (loop .inv .1) in
+    let b = ones-bound (designOf file) (a .0 .sound) (now (args .list)) (a .1) _ _ (loop .i) (loop .inv .0) (loop .inv .1) in
     let n = a .0 .sound .few in
-    let h : loop .i < countOf (now (args .file)) = let e = a .1 .size in let t = c .before .before .before .loop-test .taken in omega arith in
-    let w = ones-low (designOf (now (args .file))) (a .0 .sound) (now (args .list)) (a .1) (loop .i) h in
+    let h : loop .i < countOf file = let e = a .1 .size in let t = c .before .before .before .loop-test .taken in omega arith in
+    let w = ones-low (designOf file) (a .0 .sound) (now (args .list)) (a .1) (loop .i) h in
     let e = c .count-ones .ensures in
     omega arith
 
@@ -77,18 +80,20 @@ loop-again c = let args = c .before .before .before .before .before .before .bef
     let e = c .before .before .before .before .before .before .before .pre .1 .size in
     let t = c .before .before .before .loop-test .taken in (
       omega arith,
-      counted-next (designOf (now (args .file))) (now (args .list)) _ _ (c .before .before .before .before .loop .i) _ _ (c .before .before .before .before .loop .inv .1) (c .before .before .width-at .ensures) (c .count-ones .ensures),
+      counted-next (designOf (now (args .file))) (now (args .list)) _ _ (c .before .before .before .before .loop .i) _ _
+          (c .before .before .before .before .loop .inv .1) (c .before .before .width-at .ensures) (c .count-ones .ensures),
     )
 
 returns : tie.Need-returns Inv-loop μ-loop
 unfolding designOf
 returns c = let args = c .before .before .before .before .args in
+    let file = now (args .file) in
     let loop = c .before .loop in
     let e = c .before .before .before .before .pre .1 .size in
     let t = c .loop-test .left in
     let g = loop .inv .0 in
-    let q : loop .i ≡ countOf (now (args .file)) = omega arith in
-    let s = subst (λ (n : ℕ). Counted (designOf (now (args .file))) (now (args .list)) (loop .widths) (loop .ones) n) q (loop .inv .1) in
+    let q : loop .i ≡ countOf file = omega arith in
+    let s = subst (λ (n : ℕ). Counted (designOf file) (now (args .list)) (loop .widths) (loop .ones) n) q (loop .inv .1) in
     ap₂ tally (s .width-sum) (s .ones-sum)
 
 pub tally-of-spec : {M : Type 1} → statement M

@@ -33,7 +33,11 @@ returns c = let args = c .before .before .before .before .before .before .before
     let at = designOf (now (args .file)) .at in
     let i = args .i in
     let d = sym (ap (bitAnd (args .m)) (c .before .before .before .before .keep-at .ensures)) ∙ c .before .before .before .if1 .taken in
-    inr (c .none .ensures, subst (λ (x : ℕ). NoBit (asksOf at (at i .kind) x)) (sym d) (asks-quiet at (at i .kind) (ltb-true _ _ (sym (c .before .before .is-quiet .ensures) ∙ c .before .if2 .taken))))
+    inr (
+      c .none .ensures,
+      subst (λ (x : ℕ). NoBit (asksOf at (at i .kind) x)) (sym d)
+          (asks-quiet at (at i .kind) (ltb-true _ _ (sym (c .before .before .is-quiet .ensures) ∙ c .before .if2 .taken))),
+    )
 
 record-at-requires : tie.Need-record-at-requires
 record-at-requires c κs = let args = c .before .before .before .before .args in
@@ -42,15 +46,18 @@ record-at-requires c κs = let args = c .before .before .before .before .args in
 of-kind-requires : tie.Need-of-kind-requires
 unfolding designOf
 of-kind-requires c κs = let args = c .before .before .before .before .before .args in
+    let file = now (args .file) in
     let pre = c .before .before .before .before .before .pre in
-    (subst (λ (r : Record). Readable (now (args .file)) (r .kind)) (sym (c .record-at .ensures)) (readable (now (args .file)) (pre .0) (args .i) (pre .1)), pre .2)
+    (subst (λ (r : Record). Readable file (r .kind)) (sym (c .record-at .ensures)) (readable file (pre .0) (args .i) (pre .1)), pre .2)
 
 returns-2 : tie.Need-returns-2
 unfolding asked designOf recordAt
 returns-2 c = let args = c .before .before .before .before .before .before .args in
+    let file = now (args .file) in
     inl
-    (c .of-kind .ensures ∙ ap (λ (r : Record). asksOf (designOf (now (args .file)) .at) (r .kind) (bitAnd (args .m) (c .before .before .before .keep-at .result))) (c .before .record-at .ensures)
-    ∙ ap (λ (x : ℕ). asksOf (designOf (now (args .file)) .at) (designOf (now (args .file)) .at (args .i) .kind) (bitAnd (args .m) x)) (c .before .before .before .keep-at .ensures))
+    (c .of-kind .ensures ∙ ap (λ (r : Record). asksOf (designOf file .at) (r .kind) (bitAnd (args .m) (c .before .before .before .keep-at .result)))
+    (c .before .record-at .ensures)
+    ∙ ap (λ (x : ℕ). asksOf (designOf file .at) (designOf file .at (args .i) .kind) (bitAnd (args .m) x)) (c .before .before .before .keep-at .ensures))
 
 pub asked-spec : {M : Type 1} → statement M
 asked-spec =

@@ -17,7 +17,8 @@ uses-requires c κs = tt
 
 returns : tie.Need-returns
 unfolding designOf
-returns c = ap (λ (u : Uses). ltb (u .count) 3) (c .before .uses .ensures) ∙ ap (λ (r : Record). ltb (usesOf (r .kind) .count) 3) (c .before .before .record-at .ensures)
+returns c = ap (λ (u : Uses). ltb (u .count) 3) (c .before .uses .ensures) ∙ ap (λ (r : Record). ltb (usesOf (r .kind) .count) 3)
+    (c .before .before .record-at .ensures)
 
 pub is-quiet-spec : {M : Type 1} → statement M
 is-quiet-spec = tie.close (tie.spec record-at-requires uses-requires returns)

@@ -46,7 +46,8 @@ enum-known-kind-4 : tie.Need-enum-known-kind-4
 enum-known-kind-4 c = c .match .keys6
 
 width-at-requires : tie.Need-width-at-requires
-width-at-requires c κs = (subst (λ (k : Kind). Readable (now (c .before .before .before .before .before .args .file)) k) (c .before .kind4 .given .1) (c .before .before .before .before .before .pre .0)) .second
+width-at-requires c κs = (subst (λ (k : Kind). Readable (now (c .before .before .before .before .before .args .file)) k) (c .before .kind4 .given .1)
+    (c .before .before .before .before .before .pre .0)) .second
 
 of-concat-requires : tie.Need-of-concat-requires
 of-concat-requires c κs = tt
@@ -97,33 +98,39 @@ enum-known-kind-12 : tie.Need-enum-known-kind-12
 enum-known-kind-12 c = c .match .keys14
 
 width-at-requires-2 : tie.Need-width-at-requires-2
-width-at-requires-2 c κs = (subst (λ (k : Kind). Readable (now (c .before .before .before .before .before .args .file)) k) (c .before .kind12 .given .1) (c .before .before .before .before .before .pre .0)) .first
+width-at-requires-2 c κs = (subst (λ (k : Kind). Readable (now (c .before .before .before .before .before .args .file)) k) (c .before .kind12 .given .1)
+    (c .before .before .before .before .before .pre .0)) .first
 
 width-at-requires-3 : tie.Need-width-at-requires-3
-width-at-requires-3 c κs = (subst (λ (k : Kind). Readable (now (c .before .before .before .before .before .before .args .file)) k) (c .before .before .kind12 .given .1) (c .before .before .before .before .before .before .pre .0)) .second
+width-at-requires-3 c κs = (subst (λ (k : Kind). Readable (now (c .before .before .before .before .before .before .args .file)) k)
+    (c .before .before .kind12 .given .1) (c .before .before .before .before .before .before .pre .0)) .second
 
 of-comparison-requires : tie.Need-of-comparison-requires
 unfolding designOf recordAt
-of-comparison-requires c κs = let r = subst (λ (k : Kind). Readable (now (c .before .before .before .before .before .before .before .args .file)) k) (c .before .before .before .kind12 .given .1) (c .before .before .before .before .before .before .before .pre .0) in (
-  subst (λ (w : ℕ). w ≤ 64) (sym (c .before .width-at2 .ensures)) (r .narrow-first),
-  subst (λ (w : ℕ). w ≤ 64) (sym (c .width-at3 .ensures)) (r .narrow-second),
-)
+of-comparison-requires c κs = let r = subst (λ (k : Kind). Readable (now (c .before .before .before .before .before .before .before .args .file)) k)
+    (c .before .before .before .kind12 .given .1) (c .before .before .before .before .before .before .before .pre .0) in (
+      subst (λ (w : ℕ). w ≤ 64) (sym (c .before .width-at2 .ensures)) (r .narrow-first),
+      subst (λ (w : ℕ). w ≤ 64) (sym (c .width-at3 .ensures)) (r .narrow-second),
+    )
 
 enum-known-kind-13 : tie.Need-enum-known-kind-13
 enum-known-kind-13 c = c .match .keys15
 
 width-at-requires-4 : tie.Need-width-at-requires-4
-width-at-requires-4 c κs = (subst (λ (k : Kind). Readable (now (c .before .before .before .before .before .args .file)) k) (c .before .kind13 .given .1) (c .before .before .before .before .before .pre .0)) .first
+width-at-requires-4 c κs = (subst (λ (k : Kind). Readable (now (c .before .before .before .before .before .args .file)) k) (c .before .kind13 .given .1)
+    (c .before .before .before .before .before .pre .0)) .first
 
 width-at-requires-5 : tie.Need-width-at-requires-5
-width-at-requires-5 c κs = (subst (λ (k : Kind). Readable (now (c .before .before .before .before .before .before .args .file)) k) (c .before .before .kind13 .given .1) (c .before .before .before .before .before .before .pre .0)) .second
+width-at-requires-5 c κs = (subst (λ (k : Kind). Readable (now (c .before .before .before .before .before .before .args .file)) k)
+    (c .before .before .kind13 .given .1) (c .before .before .before .before .before .before .pre .0)) .second
 
 of-comparison-requires-2 : tie.Need-of-comparison-requires-2
 unfolding designOf recordAt
-of-comparison-requires-2 c κs = let r = subst (λ (k : Kind). Readable (now (c .before .before .before .before .before .before .before .args .file)) k) (c .before .before .before .kind13 .given .1) (c .before .before .before .before .before .before .before .pre .0) in (
-  subst (λ (w : ℕ). w ≤ 64) (sym (c .before .width-at4 .ensures)) (r .narrow-first),
-  subst (λ (w : ℕ). w ≤ 64) (sym (c .width-at5 .ensures)) (r .narrow-second),
-)
+of-comparison-requires-2 c κs = let r = subst (λ (k : Kind). Readable (now (c .before .before .before .before .before .before .before .args .file)) k)
+    (c .before .before .before .kind13 .given .1) (c .before .before .before .before .before .before .before .pre .0) in (
+      subst (λ (w : ℕ). w ≤ 64) (sym (c .before .width-at4 .ensures)) (r .narrow-first),
+      subst (λ (w : ℕ). w ≤ 64) (sym (c .width-at5 .ensures)) (r .narrow-second),
+    )
 
 returns : tie.Need-returns
 returns c = rw (c .before .enum-told .given .1) (c .none .ensures)
@@ -167,11 +174,13 @@ returns-13 c = rw (c .before .before .kind11 .given .1) (c .of-carries3 .ensures
 
 returns-14 : tie.Need-returns-14
 unfolding designOf recordAt
-returns-14 c = rw (c .before .before .before .before .kind12 .given .1, ← c .before .before .width-at2 .ensures, ← c .before .width-at3 .ensures) (c .of-comparison .ensures)
+returns-14 c = rw (c .before .before .before .before .kind12 .given .1, ← c .before .before .width-at2 .ensures, ← c .before .width-at3 .ensures)
+    (c .of-comparison .ensures)
 
 returns-15 : tie.Need-returns-15
 unfolding designOf recordAt
-returns-15 c = rw (c .before .before .before .before .kind13 .given .1, ← c .before .before .width-at4 .ensures, ← c .before .width-at5 .ensures) (c .of-comparison2 .ensures)
+returns-15 c = rw (c .before .before .before .before .kind13 .given .1, ← c .before .before .width-at4 .ensures, ← c .before .width-at5 .ensures)
+    (c .of-comparison2 .ensures)
 
 pub of-kind-spec : {M : Type 1} → statement M
 of-kind-spec =
