@@ -4,6 +4,7 @@ use mathlib.Core.Path.{_≡_, refl, sym, ap, subst, _∙_}
 use mathlib.Core.Logic.{inl, inr}
 use mathlib.Core.List.{List, [], _∷_}
 use Prim.Native.Nat.{ℕ, _-_}
+use native.Mathlib.Omega.{arith}
 use lib.Bits.{bitOr, or-zero-r}
 use lib.ListN.{set}
 use lib.Seq.{set-getD}
@@ -24,7 +25,8 @@ no-bit-joined masks x e =
 no-bit-mark : (i again : ℕ) (masks : List ℕ) (x : Ask) → x .mask ≡ 0 → markFor i again masks x ≡ again
 no-bit-mark i again masks x e =
     let old = maskAt masks (x .operand) in
-    sym (unchanged i again (x .operand) old (bitOr old (x .mask)) (sym (ap (bitOr old) e ∙ or-zero-r old)))
+    let z = unchanged i (x .operand) old (bitOr old (x .mask)) (sym (ap (bitOr old) e ∙ or-zero-r old)) in
+    omega arith
 
 no-bit-grant : (xs : List Ask) (masks : List ℕ) → NoBit xs → grant xs masks ≡ masks
 unfolding grant

@@ -3,7 +3,7 @@
 use mathlib.Core.Path.{_≡_}
 use mathlib.Core.Bool.{cond, not, _&&_}
 use mathlib.Core.List.{List, [], _∷_}
-use Prim.Native.Nat.{ℕ, suc, _+_, _≤_, _<_, min}
+use Prim.Native.Nat.{ℕ, suc, _+_, _≤_, _<_, min, max}
 use lib.Bits.{bitOr}
 use lib.Dec.{eqb, leb}
 use lib.ListN.{length}
@@ -19,14 +19,18 @@ abbrev pub Named : ℕ → List Ask → Type 0
 Named n [] = Unit {0}
 Named n (x ∷ xs) = (x .operand < n) × Named n xs
 
--- One more than the highest record that a sweep standing at record i has to come back to: `again` so far, then a record at i or
--- above whose mask changes from `old` to `new`.
-abbrev pub markOf : ℕ → ℕ → ℕ → ℕ → ℕ → ℕ
-markOf i again at old new = cond (leb i at && (leb again at && not (eqb old new))) (suc at) again
+-- One more than `at` where a sweep that stands at record i has passed that record by, else 0; and the same where in addition its
+-- mask changes from `old` to `new`.
+abbrev pub passedMark : ℕ → ℕ → ℕ
+passedMark i at = cond (leb i at) (suc at) 0
 
--- The same for a list to which an ask is joined, and for several asks one after the other.
+abbrev pub markOf : ℕ → ℕ → ℕ → ℕ → ℕ
+markOf i at old new = cond (eqb old new) 0 (passedMark i at)
+
+-- One more than the highest record that the sweep has to come back to: `again` so far, then for an ask that is joined to the masks, and
+-- for several asks one after the other.
 abbrev pub markFor : ℕ → ℕ → List ℕ → Ask → ℕ
-markFor i again masks x = markOf i again (x .operand) (maskAt masks (x .operand)) (bitOr (maskAt masks (x .operand)) (x .mask))
+markFor i again masks x = max again (markOf i (x .operand) (maskAt masks (x .operand)) (bitOr (maskAt masks (x .operand)) (x .mask)))
 
 unfoldable pub marksOf : ℕ → ℕ → List Ask → List ℕ → ℕ
 marksOf i again [] masks = again

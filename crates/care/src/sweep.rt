@@ -5,33 +5,30 @@ use signal::asks::Ask;
 use signal::asks::Asks;
 use signal::asks::asked;
 ghost use mathlib.Core.Path.{_≡_};
-ghost use Prim.Native.Nat.{_+_, _<_, _^_};
+ghost use Prim.Native.Nat.{_+_, _<_, _^_, max};
 ghost use lib.ListN.{length};
 ghost use Rattle.bits.specs.Words.{lowMasks};
 ghost use Rattle.netlist.specs.Layout.{designOf, countOf};
 ghost use Rattle.rules.specs.Sound.{Acceptance};
 ghost use Rattle.signal.specs.Held.{listed};
 ghost use Rattle.care.specs.Least.{grant, leastAbove, Fits, joined};
-ghost use Rattle.care.specs.Sweep.{Named, markOf, markFor, marksOf, Ready, Swept};
+ghost use Rattle.care.specs.Sweep.{Named, passedMark, markFor, marksOf, Ready, Swept};
 
-// How far the next sweep has to go up, after the mask of record `at` changed from old to new while the sweep stood at i.
-fn mark(i: usize, again: usize, at: usize, old: u64, new: u64) -> usize
+// One more than `at` where a sweep that stands at record i has passed that record by, else 0.
+fn mark(i: usize, at: usize) -> usize
     requires { ⌜ at + 1 < 2 ^ 64 ⌝ }
-    ensures { λ r. ⌜ r ≡ markOf i again at old new ⌝ }
+    ensures { λ r. ⌜ r ≡ passedMark i at ⌝ }
 {
-    if at < i {
-        return again;
-    }
-    if at < again {
-        return again;
-    }
-    if old == new {
-        return again;
-    }
-    at + 1
+    if at < i { 0 } else { at + 1 }
 }
 
-// Joins a mask that is asked of an operand to the operand's own.
+fn larger(a: usize, b: usize) -> usize
+    ensures { λ r. ⌜ r ≡ max a b ⌝ }
+{
+    if a < b { b } else { a }
+}
+
+// Joins a mask that is asked of an operand to the operand's own. The answer is how far the next sweep has to go up: `again` so far.
 fn join(list: &mut [u64], ask: Ask, i: usize, again: usize) -> usize
     requires { ⌜ ask .operand < length (now list) ⌝ }
     ensures list { λ r. ⌜ now (list .exit) ≡ joined (now (list .entry)) ask ⌝ }
@@ -40,8 +37,11 @@ fn join(list: &mut [u64], ask: Ask, i: usize, again: usize) -> usize
     let at = ask.operand;
     let old = list[at];
     let new = old | ask.mask;
+    if old == new {
+        return again;
+    }
     list[at] = new;
-    mark(i, again, at, old, new)
+    larger(again, mark(i, at))
 }
 
 // Joins all that record i asks.
