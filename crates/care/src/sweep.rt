@@ -1,4 +1,4 @@
-// Backward sweeps over the records, until one adds no bit that an earlier record has to pass on.
+// Backward sweeps over the records, until one adds no bit to a record that it has already passed.
 // A caller has an accepted file and a list with a mask within the width of each record.
 use bits::mask::low_table;
 use signal::asks::Ask;
