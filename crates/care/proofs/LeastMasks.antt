@@ -167,10 +167,6 @@ module _ (d : Design) (s : Sound d) where
         narrow = λ i h. subst (λ (m : ℕ). Within m (lowMask (d .at i .width))) (sym (word-at (outputSeed d) (d .count) i h)) (seed-within i);
       }
 
-  pub masks-fit : Fits d (masksOf d)
-  unfolding masksOf
-  masks-fit = least-narrow d s (wordsOf (outputSeed d) (d .count)) seed-fits
-
   -- "M is the smallest family of masks": the masks of a sound design are closed above the outputs, and within every such family
   pub masks-least : Least d (outputSeed d) (maskAt (masksOf d))
   unfolding masksOf
@@ -185,3 +181,7 @@ module _ (d : Design) (s : Sound d) where
         least = λ F c i h.
             l .least F (record { seeded = λ j k. subst (λ (m : ℕ). Within m (F j)) (sym (same j k)) (c .seeded j k); granted = c .granted }) i h;
       }
+
+  pub masks-fit : Fits d (masksOf d)
+  unfolding masksOf
+  masks-fit = least-narrow d s (wordsOf (outputSeed d) (d .count)) seed-fits

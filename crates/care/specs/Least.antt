@@ -17,7 +17,8 @@ use Rattle.signal.specs.Asks.{asked, Granted}
 use Rattle.signal.specs.declared.asks.Ask.{Ask}
 use Rattle.rules.specs.Check.{roleAt}
 
--- A family M has every bit of a seed, and every bit that a record asks for under M.
+-- A family gives each signal a mask. A family M is closed if it has every bit of a seed, which is what it has to begin with, and every bit
+-- that a record asks for under M.
 pub record Closed (d : Design) (seed M : ℕ → ℕ) : Type 0 where
   pub seeded : (i : ℕ) → i < d .count → Within (seed i) (M i)
   pub granted : (i : ℕ) → i < d .count → Granted (asked (d .at) i (M i)) M
