@@ -3,19 +3,34 @@
 
 #include "workloads.h"
 
+#include <string.h>
+
 #include "../outside/designs.h"
+#include "../outside/lists.h"
 #include "../outside/styles.h"
 
-enum { SEED = 7 };
+enum { SEED = 7, MANY_WIDTHS = 56, NOISE = 0x55 };
 
 static struct netlist net;
 static struct file files[MOST_FILES];
-static uint8_t list[8 * COUNT_LIMIT];
+static uint8_t masks[8 * COUNT_LIMIT];
+static uint8_t boards[MOST_FILES][8 * COUNT_LIMIT];
+static uint8_t nexts[MOST_FILES][8 * COUNT_LIMIT];
+
+/* Kinds alike but for twice the registers, with inputs in front and outputs
+   at the end. */
+static const struct style clocked_style = {
+    { 1, 1, 2, 1, 1, 1, 1, 1, 1, 1, 1, 1, 0, 1, 1 }, 4, 2, 0, KEEP_MOSTLY
+};
+static const struct style clocked_with_mul_style = {
+    { 1, 1, 2, 1, 1, 1, 1, 1, 1, 1, 1, 1, 1, 1, 1 }, 4, 2, 0, KEEP_MOSTLY
+};
 
 static void begin(struct workload *work, uint32_t count)
 {
     work->count = count;
     work->files = 0;
+    memset(masks, NOISE, sizeof masks);
 }
 
 static void add_file(struct workload *work)
@@ -26,8 +41,10 @@ static void add_file(struct workload *work)
     netlist_write(&net, file);
     lent->file = file->bytes;
     lent->length = file->length;
-    lent->list = list;
+    lent->list = masks;
     lent->list_length = 8 * (size_t)work->count;
+    lent->next = nexts[0];
+    lent->next_length = 0;
     work->files++;
 }
 
@@ -73,4 +90,65 @@ void chain(struct workload *work, uint32_t count)
     netlist_input(&net, 32);
     netlist_output(&net, 0, width_mask(32));
     add_file(work);
+}
+
+static uint32_t widths_in_use(void)
+{
+    uint8_t used[WIDTH_LIMIT + 1] = { 0 };
+    uint32_t widths = 0;
+    uint32_t i;
+
+    for (i = 0; i < net.count; i++) {
+        widths += !used[net.records[i].width];
+        used[net.records[i].width] = 1;
+    }
+    return widths;
+}
+
+/* Gives the file that was added last lists of its own, with words at inputs
+   and registers that are within the width. */
+static void add_lists(struct workload *work, struct rng *rng)
+{
+    uint32_t file = work->files - 1;
+    struct lent *lent = &work->lent[file];
+    uint32_t i;
+
+    lent->list = boards[file];
+    lent->next = nexts[file];
+    lent->next_length = lent->list_length;
+    memset(lent->list, NOISE, lent->list_length);
+    memset(lent->next, NOISE, lent->next_length);
+    for (i = 0; i < net.count; i++)
+        if (kind_is_given(net.records[i].kind))
+            write_64(lent->list + 8 * (size_t)i,
+                     given_word(rng, net.records[i].width));
+}
+
+/* Designs of few widths are passed by. */
+static void clocked_as(struct workload *work, uint32_t count,
+                       const struct style *style)
+{
+    uint32_t least = count / 4 < MANY_WIDTHS ? count / 4 : MANY_WIDTHS;
+    uint64_t tries = 0;
+
+    begin(work, count);
+    while (work->files < MOST_FILES) {
+        struct rng rng = rng_for(SEED + tries++, count);
+
+        design_styled(&rng, &net, count, style);
+        if (widths_in_use() < least)
+            continue;
+        add_file(work);
+        add_lists(work, &rng);
+    }
+}
+
+void clocked(struct workload *work, uint32_t count)
+{
+    clocked_as(work, count, &clocked_style);
+}
+
+void clocked_with_mul(struct workload *work, uint32_t count)
+{
+    clocked_as(work, count, &clocked_with_mul_style);
 }

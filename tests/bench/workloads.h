@@ -1,5 +1,5 @@
 /* The designs that the benchmark runs on, several files to a workload.
-   Assumes one workload at a time, since all share one mask list. */
+   Assumes one workload at a time, since all share the same lists. */
 
 #ifndef WORKLOADS_H
 #define WORKLOADS_H
@@ -9,7 +9,8 @@
 
 enum { MOST_FILES = 8 };
 
-/* What is lent for each file: the file itself, and a list for its masks. */
+/* What is lent for each file: the file itself, and a list for its masks, or
+   a board list and a next list of its own. */
 struct workload {
     uint32_t count;
     uint32_t files;
@@ -23,5 +24,10 @@ workload_maker all_kinds;     /* one design with all kinds alike */
 workload_maker feedback;      /* random designs, many registers */
 workload_maker combinational; /* random designs without registers */
 workload_maker chain;         /* registers that each read the next one */
+
+/* Random designs of many widths with inputs, registers and outputs, and board
+   lists that a cycle accepts: of all kinds but mul, or of all kinds. */
+workload_maker clocked;
+workload_maker clocked_with_mul;
 
 #endif

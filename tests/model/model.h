@@ -21,4 +21,15 @@ uint64_t model_check(const uint8_t *file, size_t length);
 uint64_t model_masks(const uint8_t *file, size_t length, uint8_t *masks,
                      size_t masks_length);
 
+/* Writes the reset states into the board list; accepted, it gives 0. Refused,
+   it leaves the list as it was. */
+uint64_t model_start(const uint8_t *file, size_t length, uint8_t *board,
+                     size_t board_length);
+
+/* One cycle: the values into the board list and the states that follow into
+   the next list; accepted, it gives 0. Refused, it leaves both as they
+   were. */
+uint64_t model_cycle(const uint8_t *file, size_t length, uint8_t *board,
+                     size_t board_length, uint8_t *next, size_t next_length);
+
 #endif

@@ -46,12 +46,12 @@ static void alignments(void)
 
 static void forbidden_before(void)
 {
-    static const struct placing at_front = { AT_FRONT, 0, 0 };
+    static const struct placing at_front = { AT_FRONT, 0, 0, 0 };
     uint32_t count;
 
     test_begin("nothing before the file is read");
     for (count = 0; count < 200; count++) {
-        struct lent lent = { file.bytes, 0, NULL, 0 };
+        struct lent lent = { file.bytes, 0, NULL, 0, NULL, 0 };
         uint64_t answer = 0;
 
         make_file(count, count);

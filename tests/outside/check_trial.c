@@ -22,8 +22,8 @@ uint64_t library_check(const struct lent *lent)
 static const char *library_fault(const uint8_t *bytes, size_t length,
                                  const uint8_t *heap, uint64_t *answer)
 {
-    static const struct placing at_end = { AT_END, 0, 0 };
-    struct lent lent = { bytes, length, NULL, 0 };
+    static const struct placing at_end = { AT_END, 0, 0, 0 };
+    struct lent lent = { bytes, length, NULL, 0, NULL, 0 };
     uint64_t again;
 
     if (!guarded_call(library_check, &lent, &at_end, answer))
@@ -42,7 +42,7 @@ static uint64_t run_trial(const uint8_t *bytes, size_t length,
 {
     void *block;
     uint8_t *heap = heap_copy(bytes, length, &block);
-    struct verdict verdict = { NULL, 0, 0, known };
+    struct verdict verdict = { NULL, 0, 0, known, NULL, 0 };
 
     verdict.fault = library_fault(bytes, length, heap, &verdict.library);
     verdict.model = model_check(heap, length);

@@ -78,3 +78,21 @@ void family_make(const struct family *family, struct rng *rng,
     if (family->bytes != NULL)
         family->bytes(rng, file);
 }
+
+size_t family_list(struct rng *rng, const struct file *file)
+{
+    size_t count = file->length < 8 ? 3 : read_16(file->bytes + 6);
+
+    switch (rng_below(rng, 8)) {
+    case 0:
+        return 0;
+    case 1:
+        return 8 * count + rng_between(rng, 1, 24);
+    case 2:
+        return 8 * (file->length / 24);
+    case 3:
+        return rng_below(rng, 8 * COUNT_LIMIT + 1);
+    default:
+        return 8 * count;
+    }
+}

@@ -25,4 +25,9 @@ extern const struct family families[FAMILIES];
 void family_make(const struct family *family, struct rng *rng,
                  struct file *file);
 
+/* The length of a list for such a file: for the count in the header or a
+   count near it, or any length. A file without a header gets a list of a few
+   words. */
+size_t family_list(struct rng *rng, const struct file *file);
+
 #endif

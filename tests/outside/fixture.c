@@ -104,3 +104,32 @@ void adds_break(struct netlist *net, uint32_t number, unsigned refusal)
         break;
     }
 }
+
+void adds_broken_file(struct file *file, unsigned refusal)
+{
+    static struct netlist net;
+
+    adds_make(&net);
+    if (refusal >= 6)
+        adds_break(&net, ADDS_FIRST, refusal);
+    netlist_write(&net, file);
+    switch (refusal) {
+    case 1:
+        file->length = 7;
+        break;
+    case 2:
+        file->bytes[5] = 1;
+        break;
+    case 3:
+        file->bytes[3] = 2;
+        break;
+    case 4:
+        write_16(file->bytes + 6, 2049);
+        break;
+    case 5:
+        file->length--;
+        break;
+    default:
+        break;
+    }
+}

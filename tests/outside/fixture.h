@@ -1,4 +1,4 @@
-/* Small valid netlists: around one record of any kind, or around two adds.
+/* Small netlists: around one record of any kind, or around two adds.
    Assumes the tests then change single fields of the tested records. */
 
 #ifndef FIXTURE_H
@@ -32,5 +32,9 @@ void adds_make(struct netlist *net);
 /* Breaks one rule from 6 to 10 of an add; each break uses a field of its
    own. */
 void adds_break(struct netlist *net, uint32_t number, unsigned refusal);
+
+/* The file of the adds with one rule from 1 to 10 broken; 6 to 10 are broken
+   in the first add. */
+void adds_broken_file(struct file *file, unsigned refusal);
 
 #endif

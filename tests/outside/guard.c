@@ -32,7 +32,7 @@ struct area {
     uint8_t *lent;
 };
 
-static struct area file_area, list_area;
+static struct area file_area, list_area, next_area;
 static sigjmp_buf back;
 static volatile sig_atomic_t calling;
 
@@ -106,7 +106,7 @@ static size_t offset_in_room(enum edge edge, size_t away, size_t length)
     return edge == AT_FRONT ? away : ROOM - away - length;
 }
 
-/* The bytes before and behind the list that are not forbidden, up to a few:
+/* The bytes before and behind a list that are not forbidden, up to a few:
    they are marked before the call and looked at after it. */
 static size_t margin_before(size_t offset)
 {
@@ -118,18 +118,19 @@ static size_t margin_behind(size_t end)
     return ROOM - end < MARGIN ? ROOM - end : MARGIN;
 }
 
-static void mark_margins(size_t offset, size_t length)
+static void mark_margins(const struct area *area, size_t offset,
+                         size_t length)
 {
-    uint8_t *list = list_area.ours + offset;
+    uint8_t *list = area->ours + offset;
     size_t before = margin_before(offset);
 
     memset(list - before, MARGIN_BYTE, before);
     memset(list + length, MARGIN_BYTE, margin_behind(offset + length));
 }
 
-static int margins_kept(size_t offset, size_t length)
+static int margins_kept(const struct area *area, size_t offset, size_t length)
 {
-    const uint8_t *list = list_area.ours + offset;
+    const uint8_t *list = area->ours + offset;
     size_t before = margin_before(offset);
     size_t behind = margin_behind(offset + length);
     size_t i;
@@ -143,6 +144,33 @@ static int margins_kept(size_t offset, size_t length)
     return 1;
 }
 
+/* Copies a list into its area and gives the address to lend. */
+static uint8_t *lend_list(const struct area *area, size_t offset,
+                          const uint8_t *list, size_t length)
+{
+    mark_margins(area, offset, length);
+    if (length != 0)
+        memcpy(area->ours + offset, list, length);
+    return area->lent + offset;
+}
+
+/* Copies a list back; false when the bytes around it were changed. */
+static int take_back(const struct area *area, size_t offset, uint8_t *list,
+                     size_t length)
+{
+    if (length != 0)
+        memcpy(list, area->ours + offset, length);
+    return margins_kept(area, offset, length);
+}
+
+static void make_areas(void)
+{
+    make_area(&file_area, PROT_READ);
+    make_area(&list_area, PROT_READ | PROT_WRITE);
+    make_area(&next_area, PROT_READ | PROT_WRITE);
+    catch_faults();
+}
+
 int guarded_call(operation *call, const struct lent *lent,
                  const struct placing *placing, uint64_t *answer)
 {
@@ -150,24 +178,24 @@ int guarded_call(operation *call, const struct lent *lent,
                                     lent->length);
     size_t list_at = offset_in_room(placing->edge, placing->list_away,
                                     lent->list_length);
+    size_t next_at = offset_in_room(placing->edge, placing->next_away,
+                                    lent->next_length);
     struct lent copies = *lent;
+    int kept;
 
-    if (file_area.ours == NULL) {
-        make_area(&file_area, PROT_READ);
-        make_area(&list_area, PROT_READ | PROT_WRITE);
-        catch_faults();
-    }
+    if (file_area.ours == NULL)
+        make_areas();
     copies.file = file_area.lent + file_at;
-    copies.list = list_area.lent + list_at;
     memcpy(file_area.ours + file_at, lent->file, lent->length);
-    mark_margins(list_at, lent->list_length);
-    if (lent->list_length != 0)
-        memcpy(list_area.ours + list_at, lent->list, lent->list_length);
+    copies.list = lend_list(&list_area, list_at, lent->list,
+                            lent->list_length);
+    copies.next = lend_list(&next_area, next_at, lent->next,
+                            lent->next_length);
     if (!caught_call(call, &copies, answer))
         return 0;
-    if (lent->list_length != 0)
-        memcpy(lent->list, list_area.ours + list_at, lent->list_length);
-    return margins_kept(list_at, lent->list_length);
+    kept = take_back(&list_area, list_at, lent->list, lent->list_length);
+    return take_back(&next_area, next_at, lent->next, lent->next_length)
+        && kept;
 }
 
 uint8_t *sparse_bytes(const uint8_t *bytes, size_t used, size_t length)

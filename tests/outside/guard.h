@@ -1,4 +1,4 @@
-/* Copies of a file and a mask list with forbidden pages on both sides.
+/* Copies of a file and its lists with forbidden pages on both sides.
    Assumes Linux; one call at a time in one thread. */
 
 #ifndef GUARD_H
@@ -17,10 +17,11 @@ struct placing {
     enum edge edge;
     size_t file_away;
     size_t list_away;
+    size_t next_away;
 };
 
 /* Calls the operation on such copies, the file's read-only, and copies the
-   list back. False when the call stepped outside or wrote to the file. The
+   lists back. False when the call stepped outside or wrote to the file. The
    address sanitizer cannot see this in a library built without it. */
 int guarded_call(operation *call, const struct lent *lent,
                  const struct placing *placing, uint64_t *answer);

@@ -1,5 +1,5 @@
 /* The memory that a caller lends to an operation, and such an operation.
-   Assumes that file and list do not overlap. */
+   Assumes that file and lists do not overlap. */
 
 #ifndef LENT_H
 #define LENT_H
@@ -7,12 +7,15 @@
 #include <stddef.h>
 #include <stdint.h>
 
-/* A file to read, and a list to fill if the operation fills one. */
+/* A file to read, and the lists to fill if the operation fills any: one of
+   masks or a board list, and for a cycle the next list as well. */
 struct lent {
     const uint8_t *file;
     size_t length;
     uint8_t *list;
     size_t list_length;
+    uint8_t *next;
+    size_t next_length;
 };
 
 typedef uint64_t operation(const struct lent *lent);

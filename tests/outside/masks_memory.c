@@ -46,7 +46,8 @@ static void demand_list(const uint8_t *list, uint64_t answer)
 static void try_placing(const struct placing *placing)
 {
     static uint8_t list[LIST_ROOM];
-    struct lent lent = { file.bytes, file.length, list, list_length };
+    struct lent lent = { file.bytes, file.length, list, list_length, NULL,
+                         0 };
     uint64_t answer = 0;
 
     fill_list(list, list_length, placing->list_away);
@@ -60,8 +61,8 @@ static void try_placing(const struct placing *placing)
 
 static void forbidden_pages(void)
 {
-    static const struct placing end = { AT_END, 0, 0 };
-    static const struct placing front = { AT_FRONT, 0, 0 };
+    static const struct placing end = { AT_END, 0, 0, 0 };
+    static const struct placing front = { AT_FRONT, 0, 0, 0 };
     uint32_t count;
 
     test_begin("masks: nothing before or behind file and list is touched");
@@ -79,7 +80,7 @@ static void forbidden_pages(void)
 static void alignments(void)
 {
     static const enum edge edges[2] = { AT_END, AT_FRONT };
-    struct placing placing;
+    struct placing placing = { AT_END, 0, 0, 0 };
     int i;
 
     test_begin("masks: file and list may begin at any address");

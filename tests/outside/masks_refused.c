@@ -51,34 +51,6 @@ static void every_length(void)
     test_end();
 }
 
-/* Breaks one rule of a valid file of two adds. */
-static void make_broken(unsigned refusal)
-{
-    adds_make(&net);
-    if (refusal >= 6)
-        adds_break(&net, ADDS_FIRST, refusal);
-    netlist_write(&net, &file);
-    switch (refusal) {
-    case 1:
-        file.length = 7;
-        break;
-    case 2:
-        file.bytes[5] = 1;
-        break;
-    case 3:
-        file.bytes[3] = 2;
-        break;
-    case 4:
-        write_16(file.bytes + 6, 2049);
-        break;
-    case 5:
-        file.length--;
-        break;
-    default:
-        break;
-    }
-}
-
 static void order(void)
 {
     static const size_t lists[] = { 0, 5, 39, 40, 41, 48, 8 * 2049 };
@@ -89,32 +61,12 @@ static void order(void)
     for (refusal = 1; refusal <= 10; refusal++) {
         uint32_t record = refusal >= 6 ? ADDS_FIRST : 0;
 
-        make_broken(refusal);
+        adds_broken_file(&file, refusal);
         for (i = 0; i < sizeof lists / sizeof *lists; i++)
             demand_answer(try_masks(file.bytes, file.length, lists[i]),
                           refused_answer(refusal, record));
     }
     test_end();
-}
-
-/* A list for the count in the header or a count near it, or of any length.
-   A file without a header gets a list of a few words. */
-static size_t some_list(struct rng *rng)
-{
-    size_t count = file.length < 8 ? 3 : read_16(file.bytes + 6);
-
-    switch (rng_below(rng, 8)) {
-    case 0:
-        return 0;
-    case 1:
-        return 8 * count + rng_between(rng, 1, 24);
-    case 2:
-        return 8 * (file.length / 24);
-    case 3:
-        return rng_below(rng, 8 * COUNT_LIMIT + 1);
-    default:
-        return 8 * count;
-    }
 }
 
 /* Damaged files, as pcn_check gets them: a third of each family. */
@@ -129,7 +81,7 @@ static void try_family(const struct family *family, uint64_t seed,
         uint64_t check, answer;
 
         family_make(family, &rng, &file);
-        answer = try_masks(file.bytes, file.length, some_list(&rng));
+        answer = try_masks(file.bytes, file.length, family_list(&rng, &file));
         check = pcn_check(file.bytes, file.length);
         if (PCN_REFUSED(check))
             demand_answer(answer, check);

@@ -45,7 +45,7 @@ static int call_at(const uint8_t *bytes, size_t length, uint8_t *list,
                    size_t list_length, const struct placing *placing,
                    uint64_t *answer)
 {
-    struct lent lent = { bytes, length, list, list_length };
+    struct lent lent = { bytes, length, list, list_length, NULL, 0 };
 
     memcpy(list, before, list_length);
     return guarded_call(library_masks, &lent, placing, answer);
@@ -56,8 +56,8 @@ static int call_at(const uint8_t *bytes, size_t length, uint8_t *list,
 static const char *call_fault(const uint8_t *bytes, size_t length,
                               size_t list_length, uint64_t *answer)
 {
-    static const struct placing end = { AT_END, 0, 0 };
-    struct placing front = { AT_FRONT, 0, 0 };
+    static const struct placing end = { AT_END, 0, 0, 0 };
+    struct placing front = { AT_FRONT, 0, 0, 0 };
     uint64_t again;
 
     front.file_away = trials_made() % PLACES;
@@ -92,7 +92,7 @@ static const char *difference(const uint8_t *model_list, size_t list_length)
 static uint64_t run_trial(const uint8_t *bytes, size_t length,
                           size_t list_length, const uint64_t *known)
 {
-    struct verdict verdict = { NULL, 0, 0, known };
+    struct verdict verdict = { NULL, 0, 0, known, NULL, 0 };
     void *file_block, *list_block;
     uint8_t *file, *list;
 

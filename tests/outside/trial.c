@@ -51,13 +51,14 @@ static void print_answer(const char *who, uint64_t answer)
     printf(" (%016" PRIx64 ")\n", answer);
 }
 
-static void save_file(const uint8_t *bytes, size_t length)
+static void save_bytes(const char *ending, const uint8_t *bytes,
+                       size_t length)
 {
     char path[4096];
     FILE *out;
 
-    snprintf(path, sizeof path, "%s/failed-%" PRIu64 "-%lu.pcn",
-             save_directory, run_seed, made);
+    snprintf(path, sizeof path, "%s/failed-%" PRIu64 "-%lu.%s",
+             save_directory, run_seed, made, ending);
     out = fopen(path, "wb");
     if (out == NULL || fwrite(bytes, 1, length, out) != length)
         printf("      could not save %s\n", path);
@@ -87,7 +88,9 @@ void trial_end(const uint8_t *bytes, size_t length,
         print_answer("model", verdict->model);
         if (verdict->known != NULL)
             print_answer("demanded", *verdict->known);
-        save_file(bytes, length);
+        save_bytes("pcn", bytes, length);
+        if (verdict->board != NULL)
+            save_bytes("board", verdict->board, verdict->board_length);
     }
     made++;
 }

@@ -7,12 +7,15 @@
 #include <stddef.h>
 #include <stdint.h>
 
-/* How a trial went: what is wrong, or null, and the answers to show. */
+/* How a trial went: what is wrong, or null, the answers to show, and the
+   board list before the call, if there was one. */
 struct verdict {
     const char *fault;
     uint64_t library;
     uint64_t model;
     const uint64_t *known;
+    const uint8_t *board;
+    size_t board_length;
 };
 
 /* Where failing files go, and the seed that their names carry. */
@@ -29,7 +32,8 @@ uint8_t *heap_copy(const uint8_t *bytes, size_t length, void **block);
    unless a fault was found before. */
 void judge_answers(struct verdict *verdict);
 
-/* Counts the trial; a fault is noted, described, and its file saved. */
+/* Counts the trial; a fault is noted, described, and its file saved, with
+   the board list beside it. */
 void trial_end(const uint8_t *bytes, size_t length,
                const struct verdict *verdict);
 

@@ -101,6 +101,11 @@ agree-equal w hx hy h = sym (mod-eq-of-lt hx) ∙ agree-low w h ∙ mod-eq-of-lt
 
 -- ---- fields and concatenation
 
+-- the w lowest bits
+pub agree-cut : {m x y : ℕ} (w : ℕ) → m < 2 ^ w → Agree m x y → Agree m (cut w x) (cut w y)
+agree-cut {m} {x} {y} w h a =
+    agree-by-bits (λ i e. let l = one-below w i h e in bit-cut x w i l ∙ agree-bit a i e ∙ sym (bit-cut y w i l))
+
 -- the field of w bits from k on: its bit i is bit k + i of the word
 pub agree-extract : {m x y : ℕ} (w k : ℕ) → m < 2 ^ w → k + w ≤ 64 → Agree (up k m) x y
     → Agree m (x / 2 ^ k % 2 ^ w) (y / 2 ^ k % 2 ^ w)

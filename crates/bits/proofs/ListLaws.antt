@@ -1,4 +1,4 @@
--- Laws of lists that a rule gives and of sums: length, words, bounds and growth.
+-- Laws of lists that a rule gives, of sums, and of the front of a list: length, words, bounds and growth.
 -- Assumes nothing.
 use mathlib.Core.Path.{_≡_, refl, sym, ap, _∙_}
 use mathlib.Core.Logic.{_⊎_, inl, inr}
@@ -7,8 +7,8 @@ use Prim.Native.Nat.{ℕ, zero, suc, _+_, _*_, _≤_, _<_}
 use native.Mathlib.Nat.{add-zero, zero-add, add-suc, suc-add, le-of-suc-le-suc, eq-or-lt-of-le, not-suc-le-zero, mul-suc}
 use native.Mathlib.Numerals.{add-one}
 use native.Mathlib.Omega.{arith}
-use lib.ListN.{length, getD, set}
-use lib.Seq.{ext-getD, getD-set-same, getD-set-other}
+use lib.ListN.{length, getD, set, take}
+use lib.Seq.{ext-getD, getD-set-same, getD-set-other, take-at}
 use Rattle.bits.specs.Lists.{wordsFrom, wordsOf, sumTo}
 
 pub length-append : (l m : List ℕ) → length (l ++ m) ≡ length l + length m
@@ -85,3 +85,14 @@ filled-next f list i v t h e = record { each = λ j k. go j (eq-or-lt-of-le (let
 
 pub filled-all : (f : ℕ → ℕ) (n : ℕ) (list : List ℕ) → length list ≡ n → Filled f list n → list ≡ wordsOf f n
 filled-all f n list e t = words-only f n list e (t .each)
+
+-- a list whose front has n words, when the front is lent
+module _ (front rest : List ℕ) {n : ℕ} (e : length front ≡ n) where
+  pub front-within : n ≤ length (front ++ rest)
+  front-within = let s = length-append front rest in omega arith
+
+  pub front-taken : take n (front ++ rest) ≡ front
+  front-taken = take-at front rest n e
+
+  pub taken-length : n ≡ length (take n (front ++ rest))
+  taken-length = sym (ap length front-taken ∙ e)

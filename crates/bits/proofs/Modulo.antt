@@ -5,13 +5,18 @@ use Prim.Native.Nat.{ℕ, _+_, _-_, _*_, _/_, _%_, _^_, _≤_, _<_}
 use native.Mathlib.Nat.{le-dest, add-comm, mul-comm, mod-lt, add-mod-mod, mod-add-mod, add-mul, mul-add, mul-assoc, div-add-mod', mul-add-mod-self-right, add-assoc, add-mod-right, lt-of-lt-of-le, div-eq-of-lt, mul-mod-left}
 use native.Mathlib.Omega.{arith}
 use lib.Pow.{pow-pos, pow-mono, mod-mod-pow, pow-add}
-use Rattle.bits.specs.Words.{differenceAt}
+use Rattle.bits.specs.Words.{sumAt, differenceAt}
 
 -- the longer cut is as good as none
 pub cut-cut : (x : ℕ) {k w : ℕ} → k ≤ w → x % 2 ^ w % 2 ^ k ≡ x % 2 ^ k
 cut-cut x {k} {w} h =
     let d = le-dest h in
     ap (λ (m : ℕ). x % 2 ^ m % 2 ^ k) (sym (d .1) ∙ add-comm k (d .0)) ∙ mod-mod-pow x (d .0) k
+
+-- a sum at a width of at most 64 needs no more of a word than its 64 low bits
+pub sum-cut : (x y : ℕ) {w : ℕ} → w ≤ 64 → sumAt w (x % 2 ^ 64) y ≡ (x + y) % 2 ^ w
+sum-cut x y {w} h =
+    sym (mod-add-mod (x % 2 ^ 64) (2 ^ w) y) ∙ ap (λ (n : ℕ). (n + y) % 2 ^ w) (cut-cut x h) ∙ mod-add-mod x (2 ^ w) y
 
 -- a product depends only on its first factor modulo m
 pub mul-mod-l : (x y m : ℕ) → x % m * y % m ≡ x * y % m

@@ -62,7 +62,3 @@ length-low {d} h = within-low (bitLength d) (lengthIn-holds 64 d h)
 
 pub length-mono : {a b : ℕ} → Within a b → b < 2 ^ 64 → bitLength a ≤ bitLength b
 length-mono {b = b} h g = length-le (bitLength b) (within-lt (bitLength b) h (lengthIn-holds 64 b g))
-
--- the mask of all bits up to the highest one grows with the mask
-pub length-low-mono : {a b : ℕ} → Within a b → b < 2 ^ 64 → Within (lowMask (bitLength a)) (lowMask (bitLength b))
-length-low-mono h g = low-mono (length-mono h g)

@@ -1,7 +1,12 @@
--- Lists of words that a rule gives, and sums over them.
+-- The words of a list, lists of words that a rule gives, and sums over them.
 -- Assumes nothing.
 use mathlib.Core.List.{List, [], _∷_}
 use Prim.Native.Nat.{ℕ, zero, suc, _+_}
+use lib.ListN.{getD}
+
+-- Word i of a list, counted from 0.
+abbrev pub wordAt : List ℕ → ℕ → ℕ
+wordAt list i = getD list i 0
 
 -- The list of n words whose word i is f i: f at the n places from i on, and from 0 on.
 unfoldable pub wordsFrom : (ℕ → ℕ) → ℕ → ℕ → List ℕ

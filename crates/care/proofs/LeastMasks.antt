@@ -1,6 +1,6 @@
 -- The masks of a design are closed, lie within every closed family, and are the only such masks.
 -- Assumes nothing.
-use mathlib.Core.Path.{_≡_, refl, sym, subst, _∙_}
+use mathlib.Core.Path.{_≡_, refl, sym, ap, subst, _∙_}
 use mathlib.Core.Bool.{Bool, true, false, cond}
 use mathlib.Core.Logic.{_⊎_, inl, inr}
 use mathlib.Core.List.{List}
@@ -17,10 +17,10 @@ use Rattle.bits.proofs.Growth.{countOnes-mono, countOnes-le, growth}
 use Rattle.bits.proofs.ListLaws.{length-words, word-at, sum-mono, sum-same}
 use Rattle.bits.proofs.Order.{within-refl, within-antisym, within-zero, low-within}
 use Rattle.netlist.specs.Kinds.{isOutput}
-use Rattle.netlist.specs.Layout.{Design}
+use Rattle.netlist.specs.Layout.{Design, designOf}
 use Rattle.signal.specs.Asks.{asked}
 use Rattle.rules.specs.Check.{roleAt}
-use Rattle.rules.specs.Sound.{Sound}
+use Rattle.rules.specs.Sound.{Sound, Acceptance}
 use Rattle.rules.proofs.SoundLaws.{word-64}
 use Rattle.care.specs.Least.{Closed, Least, maskAt, outputSeed, roundTo, widthSum, onesSum, settle, leastAbove, masksOf, Fits}
 use Rattle.care.specs.Sweep.{Between, Settled}
@@ -185,3 +185,8 @@ module _ (d : Design) (s : Sound d) where
   pub masks-fit : Fits d (masksOf d)
   unfolding masksOf
   masks-fit = least-narrow d s (wordsOf (outputSeed d) (d .count)) seed-fits
+
+-- a list that holds the masks of an accepted file has a word for each record
+pub masks-length : (file : List ℕ) (n : ℕ) → Acceptance file n → {list : List ℕ} → list ≡ masksOf (designOf file) → length list ≡ n
+unfolding designOf
+masks-length file n a e = ap length e ∙ masks-fit (designOf file) (a .sound) .size ∙ sym (a .count)

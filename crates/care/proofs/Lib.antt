@@ -9,5 +9,4 @@ pub mod SweepLaws
 pub mod ListedAsks
 pub mod TallyLaws
 pub mod CallLaws
-pub mod LentList
 pub mod Promises

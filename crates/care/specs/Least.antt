@@ -6,8 +6,8 @@ use mathlib.Core.List.{List, [], _∷_}
 use Prim.Native.Nat.{ℕ, zero, suc, _<_}
 use lib.Bits.{bitOr}
 use lib.Dec.{eqb}
-use lib.ListN.{length, getD, set}
-use Rattle.bits.specs.Lists.{wordsOf, sumTo}
+use lib.ListN.{length, set}
+use Rattle.bits.specs.Lists.{wordAt, wordsOf, sumTo}
 use Rattle.bits.specs.Masks.{Within}
 use Rattle.bits.specs.Words.{lowMask, countOnes}
 use Rattle.netlist.specs.Kinds.{isOutput}
@@ -37,7 +37,7 @@ outputSeed d i = seedOf (roleAt d i) (d .at i .width)
 
 -- A list of masks as a family: the mask of record i is word i.
 abbrev pub maskAt : List ℕ → ℕ → ℕ
-maskAt masks i = getD masks i 0
+maskAt masks i = wordAt masks i
 
 -- A list has a mask for each record, within its width.
 pub record Fits (d : Design) (masks : List ℕ) : Type 0 where

@@ -5,7 +5,8 @@ use crate::tally::Tallied;
 use crate::tally::Tally;
 use crate::tally::tally_of;
 use bits::mask::low_mask;
-use netlist::layout::record_at;
+use netlist::layout::uses_at;
+use netlist::layout::width_at;
 use netlist::record::Role;
 use netlist::refusal::Refusal;
 use rules::check::Checked;
@@ -37,11 +38,9 @@ fn seed_at(file: &[u8], i: usize) -> u64
     requires { ⌜ Acceptance (now file) (countOf (now file)) × (i < countOf (now file)) ⌝ }
     ensures { λ r. ⌜ r ≡ outputSeed (designOf (now (file .entry))) i ⌝ }
 {
-    let record = record_at(file, i);
-    let kind = record.kind;
-    let uses = kind.uses();
+    let uses = uses_at(file, i);
     let role = uses.role;
-    seed_of(role, record.width)
+    seed_of(role, width_at(file, i))
 }
 
 // Fills a list with the seed.

@@ -20,7 +20,7 @@ ghost use Rattle.desktop.specs.Answer.{refusedAnswer, tallyAnswer, talli
 ghost use Rattle.desktop.specs.Buffers.{masksBuffer};
 
 // The answer of a refused call: bit 63, the refusal's number from bit 32 on, and the record.
-fn refused(number: u64, at: u64) -> u64
+pub fn refused(number: u64, at: u64) -> u64
     requires { ⌜ (number < 256) × (at < 2 ^ 32) ⌝ }
     ensures { λ r. ⌜ r ≡ refusedAnswer number at ⌝ }
 {

@@ -15,6 +15,7 @@ use Rattle.netlist.specs.Kinds.{kinds, kindOf, codeOf, usesOf}
 use Rattle.netlist.specs.declared.record.Fields.{Fields}
 use Rattle.netlist.specs.declared.record.Kind.{Kind}
 use Rattle.netlist.specs.declared.record.Kind.the-variants.{Input, Constant, Register, Output, Extract, Concat, And, Or, Xor, Mux, Add, Sub, Mul, Equal, Below}
+use Rattle.netlist.specs.declared.record.Role.the-variants.{Register as register}
 use Rattle.netlist.specs.declared.record.Uses.{Uses}
 
 -- no kind has a number above 14
@@ -106,3 +107,21 @@ padded (Sub a b) = record { first = refl; second = refl; third = refl }
 padded (Mul a b) = record { first = refl; second = refl; third = refl }
 padded (Equal a b) = record { first = refl; second = refl; third = refl }
 padded (Below a b) = record { first = refl; second = refl; third = refl }
+
+-- only a register has a register's role
+pub is-register : (kind : Kind) (a k : ℕ) → usesOf kind .role ≡ register a k → kind ≡ Register a k
+is-register Input a k e = absurd (let z : _≡_ {A = ℕ} 0 1 = cc in omega arith)
+is-register (Constant l) a k e = absurd (let z : _≡_ {A = ℕ} 0 1 = cc in omega arith)
+is-register (Register b l) a k e = cc
+is-register (Output b) a k e = absurd (let z : _≡_ {A = ℕ} 0 1 = cc in omega arith)
+is-register (Extract b l) a k e = absurd (let z : _≡_ {A = ℕ} 0 1 = cc in omega arith)
+is-register (Concat b c) a k e = absurd (let z : _≡_ {A = ℕ} 0 1 = cc in omega arith)
+is-register (And b c) a k e = absurd (let z : _≡_ {A = ℕ} 0 1 = cc in omega arith)
+is-register (Or b c) a k e = absurd (let z : _≡_ {A = ℕ} 0 1 = cc in omega arith)
+is-register (Xor b c) a k e = absurd (let z : _≡_ {A = ℕ} 0 1 = cc in omega arith)
+is-register (Mux b c d) a k e = absurd (let z : _≡_ {A = ℕ} 0 1 = cc in omega arith)
+is-register (Add b c) a k e = absurd (let z : _≡_ {A = ℕ} 0 1 = cc in omega arith)
+is-register (Sub b c) a k e = absurd (let z : _≡_ {A = ℕ} 0 1 = cc in omega arith)
+is-register (Mul b c) a k e = absurd (let z : _≡_ {A = ℕ} 0 1 = cc in omega arith)
+is-register (Equal b c) a k e = absurd (let z : _≡_ {A = ℕ} 0 1 = cc in omega arith)
+is-register (Below b c) a k e = absurd (let z : _≡_ {A = ℕ} 0 1 = cc in omega arith)

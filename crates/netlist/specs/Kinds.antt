@@ -111,6 +111,13 @@ isOutput (register a k) = false
 isOutput output = true
 isOutput gate = false
 
+-- "it holds each pin's word at its input and each state at its register": the roles whose word on the board list counts.
+abbrev pub isHeld : Role → Bool
+isHeld input = true
+isHeld (register a k) = true
+isHeld output = false
+isHeld gate = false
+
 -- The operands that a kind uses.
 unfoldable pub operandsOf : Uses → List ℕ
 operandsOf u = take (u .count) (u .a ∷ u .b ∷ u .c ∷ [])

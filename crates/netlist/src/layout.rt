@@ -2,11 +2,13 @@
 // Each reader asks that what it reads lies within the file.
 use crate::record::Fields;
 use crate::record::Record;
+use crate::record::Uses;
 use bits::bytes::read_16;
 use bits::bytes::read_64;
 ghost use mathlib.Core.Path.{_≡_};
 ghost use Prim.Native.Nat.{_+_, _*_, _≤_, _<_, _^_};
 ghost use lib.ListN.{length};
+ghost use Rattle.netlist.specs.Kinds.{usesOf};
 ghost use Rattle.netlist.specs.Layout.{headerSize, recordSize, recordStart, countOf, versionOf, codeAt, widthAt, fieldsAt, keepAt, recordAt};
 
 // The sizes of the header and of a record, in bytes.
@@ -85,4 +87,14 @@ pub fn record_at(file: &[u8], i: usize) -> Record
         fields,
         keep_at(file, i),
     )
+}
+
+// What the kind of record i uses.
+pub fn uses_at(file: &[u8], i: usize) -> Uses
+    requires { ⌜ recordStart i + recordSize ≤ length (now file) ⌝ }
+    ensures { λ r. ⌜ r ≡ usesOf (recordAt (now (file .entry)) i .kind) ⌝ }
+{
+    let record = record_at(file, i);
+    let kind = record.kind;
+    kind.uses()
 }

@@ -16,6 +16,7 @@ pub enum Refusal {
     BadWidthRule,
     UnusedBit,
     BadList,
+    WideWord,
 }
 
 impl Refusal {
@@ -35,6 +36,7 @@ impl Refusal {
             Refusal::BadWidthRule => 9,
             Refusal::UnusedBit => 10,
             Refusal::BadList => 11,
+            Refusal::WideWord => 12,
         }
     }
 }

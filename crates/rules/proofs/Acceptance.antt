@@ -68,6 +68,11 @@ accepted file n e =
       };
     }
 
+-- an accepted file has no more records than the limit
+pub few : (file : List ℕ) (n : ℕ) → Acceptance file n → n ≤ maxCount
+unfolding designOf
+few file n a = let f = a .sound .few in let e = a .count in omega arith
+
 -- an accepted file holds all its records
 pub holds-record : (file : List ℕ) → Acceptance file (countOf file) → (i : ℕ) → i < countOf file → recordStart i + recordSize ≤ length file
 holds-record file a i h = let s = a .size in omega arith

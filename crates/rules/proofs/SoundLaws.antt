@@ -1,5 +1,5 @@
--- Laws of sound designs: operand fields name records of the design, k fits a word, and a design that is the same in all its
--- records is sound too. Assumes nothing.
+-- Laws of sound designs: operand fields name records of the design, k fits a word, a register has the width of its a, and a design that is
+-- the same in all its records is sound too. Assumes nothing.
 use mathlib.Core.Path.{_≡_, sym, subst}
 use mathlib.Core.List.{List, [], _∷_}
 use mathlib.Core.Bool.{false}
@@ -15,10 +15,11 @@ use Rattle.netlist.specs.Rules.{AllHold}
 use Rattle.netlist.specs.declared.record.Kind.{Kind}
 use Rattle.netlist.specs.declared.record.Kind.the-variants.{Input, Constant, Register, Output, Extract, Concat, And, Or, Xor, Mux, Add, Sub, Mul, Equal, Below}
 use Rattle.netlist.specs.declared.record.Record.{Record}
+use Rattle.netlist.specs.declared.record.Role.the-variants.{Register as register}
 use Rattle.netlist.specs.declared.record.Uses.{Uses}
-use Rattle.netlist.proofs.KindLaws.{padded}
+use Rattle.netlist.proofs.KindLaws.{padded, is-register}
 use Rattle.netlist.proofs.Tests.{hold-tests}
-use Rattle.rules.specs.Check.{operandLimit, namesRules, operandRules, widthRulesAt}
+use Rattle.rules.specs.Check.{roleAt, operandLimit, namesRules, operandRules, widthRulesAt}
 use Rattle.rules.specs.Sound.{Sound, SoundRecord, SameDesign}
 use Rattle.rules.proofs.CheckLaws.{limit-le}
 use Rattle.rules.proofs.OperandLaws.{operand-below}
@@ -75,6 +76,23 @@ k-64 d s i h =
     let r = s .each i h in
     k-word (d .at i .kind) (d .at i .width) (d .at (u .a) .width) (d .at (u .b) .width) (d .at (u .c) .width) (r .widths)
     (word-64 d s i h (u .word) (r .word)) (s .each (u .a) (operands-below d s i h .a) .narrow)
+
+-- a register's a is a record of the design and has the register's width
+pub record Loads (d : Design) (i a : ℕ) : Type 0 where
+  pub below : a < d .count
+  pub width : d .at a .width ≡ d .at i .width
+
+pub register-loads : (d : Design) (s : Sound d) (i : ℕ) (h : i < d .count) (a k : ℕ) → roleAt d i ≡ register a k → Loads d i a
+unfolding widthRulesAt
+register-loads d s i h a k e =
+    let q = is-register (d .at i .kind) a k e in
+    record {
+      below = subst (λ (kind : Kind). usesOf kind .a < d .count) q (operands-below d s i h .a);
+      width =
+          subst
+          (λ (kind : Kind). AllHold (let u = usesOf kind in widthRules kind (d .at i .width) (d .at (u .a) .width) (d .at (u .b) .width) (d .at (u .c) .width)))
+          q (s .each i h .widths) .0;
+    }
 
 -- the operands' rules look only at records below the limit
 names-same : (d e : Design) (limit : ℕ) → ((j : ℕ) → j < limit → d .at j ≡ e .at j) → (js : List ℕ) → AllHold (namesRules d limit js) → AllHold (namesRules e limit js)

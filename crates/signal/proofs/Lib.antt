@@ -2,3 +2,4 @@
 -- Assumes nothing.
 pub mod Reading
 pub mod RuleLaws
+pub mod ResultLaws

@@ -1,17 +1,16 @@
 -- The laws of the care rules, kind by kind: what is asked grows with D, stays within the operands' widths, and is mostly no bit for D 0.
 -- Assumes nothing. The crates above use these laws and look at no kind.
 use mathlib.Core.Path.{_≡_, refl, sym, ap, subst}
-use mathlib.Core.Bool.{Bool, cond}
 use Prim.Native.Nat.{ℕ, zero, suc, _%_, _^_, _≤_, _<_}
-use native.Mathlib.Nat.{mod-lt, zero-mul, zero-div, zero-mod}
+use native.Mathlib.Nat.{lt-of-lt-of-le, mod-lt, zero-mul, zero-div, zero-mod}
 use native.Mathlib.Omega.{arith}
 use lib.Bits.{bitAnd}
-use lib.Dec.{eqb·suc-zero}
-use lib.Pow.{pow-pos}
+use lib.Dec.{eqb·suc-zero, lit<}
+use lib.Pow.{pow-pos, pow-mono}
 use Rattle.bits.specs.Masks.{Within}
 use Rattle.bits.specs.Words.{lowMask}
 use Rattle.bits.proofs.Order.{within-refl, within-trans, within-zero, within-le, within-low, within-lt, low-mono, meet-right, meet-mono}
-use Rattle.bits.proofs.Shifts.{cut-mono, up-mono, up-lt, down-mono, down-lt, length-zero, length-le, length-low-mono}
+use Rattle.bits.proofs.Shifts.{cut-mono, up-mono, up-lt, down-mono, down-lt, length-zero, length-le, length-mono}
 use Rattle.netlist.specs.Limits.{maxWidth}
 use Rattle.netlist.specs.Kinds.{usesOf, widthRules}
 use Rattle.netlist.specs.Layout.{Design}
@@ -26,22 +25,19 @@ use Rattle.signal.specs.Asks.{upToHighest, allIfAny, asksOf, caredOf, as
 use Rattle.signal.specs.Held.{NoBit}
 
 -- all bits if D is not 0: more of D asks for no less
-any-all : (w D : ℕ) → allIfAny w (suc D) ≡ lowMask w
-any-all w D = ap (λ (t : Bool). cond t 0 (lowMask w)) (eqb·suc-zero D)
-
 any-within : (w D : ℕ) → Within (allIfAny w D) (lowMask w)
-any-within w zero = within-zero (lowMask w)
-any-within w (suc D) = rw (any-all w D) (within-refl (lowMask w))
+any-within w zero = within-zero _
+any-within w (suc D) = rw (eqb·suc-zero D) (low-mono (omega arith))
 
 any-mono : (w D E : ℕ) → Within D E → Within (allIfAny w D) (allIfAny w E)
-any-mono w zero E h = within-zero (allIfAny w E)
+any-mono w zero E h = within-zero _
 any-mono w (suc D) zero h = absurd (let l = within-le h in omega arith)
-any-mono w (suc D) (suc E) h = rw (any-all w E) (any-within w (suc D))
+any-mono w (suc D) (suc E) h = rw (eqb·suc-zero D, eqb·suc-zero E) (within-refl _)
 
 -- what is asked with D is granted where what is asked with more is granted
 module _ (at : ℕ → Record) (M : ℕ → ℕ) {D E : ℕ} (h : Within D E) (low : E < 2 ^ 64) where
   carry : {m : ℕ} → Within (upToHighest E) m → Within (upToHighest D) m
-  carry g = within-trans (length-low-mono h low) g
+  carry g = within-trans (low-mono (let l = length-mono h low in omega arith)) g
 
   any : (w : ℕ) {m : ℕ} → Within (allIfAny w E) m → Within (allIfAny w D) m
   any w g = within-trans (any-mono w D E h) g
@@ -51,8 +47,8 @@ module _ (at : ℕ → Record) (M : ℕ → ℕ) {D E : ℕ} (h : Within D E) (l
   asks-grow (Constant k) g = tt
   asks-grow (Register a k) g = (within-trans h (g .0), tt)
   asks-grow (Output a) g = (within-trans h (g .0), tt)
-  asks-grow (Extract a k) g = (within-trans (up-mono k h) (g .0), tt)
-  asks-grow (Concat a b) g = (within-trans (down-mono (at b .width) h) (g .0), (within-trans (cut-mono (at b .width) h) (g .1 .0), tt))
+  asks-grow (Extract a k) g = (within-trans (up-mono _ h) (g .0), tt)
+  asks-grow (Concat a b) g = (within-trans (down-mono _ h) (g .0), (within-trans (cut-mono _ h) (g .1 .0), tt))
   asks-grow (And a b) g = (within-trans h (g .0), (within-trans h (g .1 .0), tt))
   asks-grow (Or a b) g = (within-trans h (g .0), (within-trans h (g .1 .0), tt))
   asks-grow (Xor a b) g = (within-trans h (g .0), (within-trans h (g .1 .0), tt))
@@ -62,6 +58,10 @@ module _ (at : ℕ → Record) (M : ℕ → ℕ) {D E : ℕ} (h : Within D E) (l
   asks-grow (Mul a b) g = (carry (g .0), (carry (g .1 .0), tt))
   asks-grow (Equal a b) g = (any (at a .width) (g .0), (any (at b .width) (g .1 .0), tt))
   asks-grow (Below a b) g = (any (at a .width) (g .0), (any (at b .width) (g .1 .0), tt))
+
+-- a mask of at most one bit
+one-bit : (m w : ℕ) → m < 2 → 1 ≤ w → Within m (lowMask w)
+one-bit m w h l = within-low w (lt-of-lt-of-le h (pow-mono {i = 1} l))
 
 -- what is asked with a D within the record's width names records of the design and stays within their widths
 module _ (d : Design) (w D : ℕ) (h : D < 2 ^ w) where
@@ -78,18 +78,18 @@ module _ (d : Design) (w D : ℕ) (h : D < 2 ^ w) where
   asks-fit (Constant k) o n r = tt
   asks-fit (Register a k) o n r = (o .a, same-width a (r .0), tt)
   asks-fit (Output a) o n r = (o .a, same-width a (r .0), tt)
-  asks-fit (Extract a k) o n r = (o .a, within-low (d .at a .width) (up-lt w k (d .at a .width) h (omega arith) n), tt)
+  asks-fit (Extract a k) o n r = (o .a, within-low (d .at a .width) (up-lt w _ (d .at a .width) h (omega arith) n), tt)
   asks-fit (Concat a b) o n r = (
     o .a,
-    within-low (d .at a .width) (down-lt (d .at a .width) (d .at b .width) (subst (λ (v : ℕ). D < 2 ^ v) (sym (r .0)) h)),
-    (o .b, within-low (d .at b .width) (mod-lt D (pow-pos (d .at b .width))), tt),
+    within-low (d .at a .width) (down-lt (d .at a .width) _ (lt-of-lt-of-le h (pow-mono (omega arith)))),
+    (o .b, within-low (d .at b .width) (lt-of-lt-of-le (mod-lt D (pow-pos _)) (pow-mono (omega arith))), tt),
   )
   asks-fit (And a b) o n r = (o .a, same-width a (r .0), (o .b, same-width b (r .1 .0), tt))
   asks-fit (Or a b) o n r = (o .a, same-width a (r .0), (o .b, same-width b (r .1 .0), tt))
   asks-fit (Xor a b) o n r = (o .a, same-width a (r .0), (o .b, same-width b (r .1 .0), tt))
   asks-fit (Mux a b c) o n r = (
     o .a,
-    subst (λ (v : ℕ). Within 1 (lowMask v)) (sym (r .0)) (within-refl 1),
+    one-bit _ (d .at a .width) (lit< tt) (omega arith),
     (o .b, same-width b (r .1 .0), (o .c, same-width c (r .1 .1 .0), tt)),
   )
   asks-fit (Add a b) o n r = (o .a, low-bits a (r .0), (o .b, low-bits b (r .1 .0), tt))
@@ -98,21 +98,27 @@ module _ (d : Design) (w D : ℕ) (h : D < 2 ^ w) where
   asks-fit (Equal a b) o n r = (o .a, any-within (d .at a .width) D, (o .b, any-within (d .at b .width) D, tt))
   asks-fit (Below a b) o n r = (o .a, any-within (d .at a .width) D, (o .b, any-within (d .at b .width) D, tt))
 
+low-none : (n : ℕ) → n ≡ 0 → lowMask n ≡ 0
+low-none n = ap lowMask
+
+none-highest : upToHighest 0 ≡ 0
+none-highest = low-none _ (let z = length-zero in omega arith)
+
 -- with D 0, a kind with fewer operands than a mux asks for no bit
 pub asks-quiet : (at : ℕ → Record) (kind : Kind) → usesOf kind .count < 3 → NoBit (asksOf at kind 0)
 asks-quiet at Input h = tt
 asks-quiet at (Constant k) h = tt
 asks-quiet at (Register a k) h = (refl, tt)
 asks-quiet at (Output a) h = (refl, tt)
-asks-quiet at (Extract a k) h = (ap (λ (m : ℕ). m % 2 ^ 64) (zero-mul (2 ^ k)), tt)
-asks-quiet at (Concat a b) h = (zero-div (2 ^ at b .width), (zero-mod (2 ^ at b .width), tt))
+asks-quiet at (Extract a k) h = (ap (λ (m : ℕ). m % 2 ^ 64) (zero-mul _), tt)
+asks-quiet at (Concat a b) h = (zero-div _, (zero-mod _, tt))
 asks-quiet at (And a b) h = (refl, (refl, tt))
 asks-quiet at (Or a b) h = (refl, (refl, tt))
 asks-quiet at (Xor a b) h = (refl, (refl, tt))
 asks-quiet at (Mux a b c) h = absurd (let z : 3 < 3 = h in omega arith)
-asks-quiet at (Add a b) h = (ap lowMask length-zero, (ap lowMask length-zero, tt))
-asks-quiet at (Sub a b) h = (ap lowMask length-zero, (ap lowMask length-zero, tt))
-asks-quiet at (Mul a b) h = (ap lowMask length-zero, (ap lowMask length-zero, tt))
+asks-quiet at (Add a b) h = (none-highest, (none-highest, tt))
+asks-quiet at (Sub a b) h = (none-highest, (none-highest, tt))
+asks-quiet at (Mul a b) h = (none-highest, (none-highest, tt))
 asks-quiet at (Equal a b) h = (refl, (refl, tt))
 asks-quiet at (Below a b) h = (refl, (refl, tt))
 

@@ -1,4 +1,5 @@
--- What one record means: what it asks of its operands.
+-- What one record means: its result from its operands, and what it asks of them.
 -- Assumes nothing.
+pub mod Results
 pub mod Asks
 pub mod Held

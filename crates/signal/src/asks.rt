@@ -8,6 +8,7 @@ use bits::mask::low_entry;
 use bits::mask::low_mask;
 use netlist::layout::keep_at;
 use netlist::layout::record_at;
+use netlist::layout::uses_at;
 use netlist::layout::width_at;
 use netlist::record::Kind;
 ghost use mathlib.Core.Path.{_≡_};
@@ -161,9 +162,7 @@ fn is_quiet(file: &[u8], i: usize) -> bool
     requires { ⌜ recordStart i + recordSize ≤ length (now file) ⌝ }
     ensures { λ r. ⌜ r ≡ ltb (usesOf (designOf (now (file .entry)) .at i .kind) .count) 3 ⌝ }
 {
-    let record = record_at(file, i);
-    let kind = record.kind;
-    let uses = kind.uses();
+    let uses = uses_at(file, i);
     uses.count < 3
 }
 

@@ -6,7 +6,9 @@ use lib.Seq.{length-take-le}
 use borrow.Author.Needs.{needs}
 use denote.Ref.{now}
 use Rattle.bits.specs.Bytes.{wordBytes}
-use Rattle.care.proofs.LentList.{few, front-within, front-taken, taken-length}
+use Rattle.bits.proofs.ListLaws.{front-within, front-taken, taken-length}
+use Rattle.rules.proofs.Acceptance.{few}
+use Rattle.care.proofs.LeastMasks.{masks-length}
 use Rattle.rules.specs.Sound.{Acceptance}
 use Rattle.desktop.proofs.fill_buffer.Statement.{statement}
 use Rattle.desktop.proofs.fill_buffer.Tie as tie
@@ -27,19 +29,16 @@ fill-requires c κs = let args = c .before .before .before .args in
 
 array-share-prefix-words : tie.Need-array-share-prefix-words
 array-share-prefix-words c = let args = c .before .before .before .before .before .before .args in
-    front-within (now (args .file)) (args .n) (c .before .before .before .before .before .before .pre .0) (c .before .before .fill .last .1 .0)
-    (c .before .before .fill .ensures .1) _
+    front-within (c .before .before .fill .last .1 .0) _ (masks-length (now (args .file)) (args .n) (c .before .before .before .before .before .before .pre .0) (c .before .before .fill .ensures .1))
 
 slice-aggregate-write-words : tie.Need-slice-aggregate-write-words
 slice-aggregate-write-words c = let args = c .before .before .before .before .before .before .before .args in
-    taken-length (now (args .file)) (args .n) (c .before .before .before .before .before .before .before .pre .0) (c .before .before .before .fill .last .1 .0)
-    (c .before .before .before .fill .ensures .1) _
+    taken-length (c .before .before .before .fill .last .1 .0) _ (masks-length (now (args .file)) (args .n) (c .before .before .before .before .before .before .before .pre .0) (c .before .before .before .fill .ensures .1))
 
 write-words-requires : tie.Need-write-words-requires
 write-words-requires c κs = let args = c .before .before .before .before .before .before .before .args in
     c .before .before .before .before .before .before .before .pre .1 ∙ ap (λ (n : ℕ). 8 * n)
-    (taken-length (now (args .file)) (args .n) (c .before .before .before .before .before .before .before .pre .0) (c .before .before .before .fill .last .1 .0)
-    (c .before .before .before .fill .ensures .1) _)
+    (taken-length (c .before .before .before .fill .last .1 .0) _ (masks-length (now (args .file)) (args .n) (c .before .before .before .before .before .before .before .pre .0) (c .before .before .before .fill .ensures .1)))
 
 same-length : tie.Need-same-length
 same-length c = search needs
@@ -48,8 +47,7 @@ returns : tie.Need-returns
 returns c = let args = c .before .before .before .before .before .before .before .before .before .before .args in (
   c .before .before .before .before .before .before .fill .ensures .0,
   c .before .before .write-words .ensures ∙ ap wordBytes
-      (front-taken (now (args .file)) (args .n) (c .before .before .before .before .before .before .before .before .before .before .pre .0)
-      (c .before .before .before .before .before .before .fill .last .1 .0) (c .before .before .before .before .before .before .fill .ensures .1) _
+      (front-taken (c .before .before .before .before .before .before .fill .last .1 .0) _ (masks-length (now (args .file)) (args .n) (c .before .before .before .before .before .before .before .before .before .before .pre .0) (c .before .before .before .before .before .before .fill .ensures .1))
       ∙ c .before .before .before .before .before .before .fill .ensures .1),
 )
 

@@ -6,7 +6,9 @@ use lib.Seq.{length-take-le}
 use borrow.Author.Needs.{needs}
 use denote.Ref.{now}
 use Rattle.rules.specs.Sound.{Acceptance}
-use Rattle.care.proofs.LentList.{few, front-within, taken-length}
+use Rattle.bits.proofs.ListLaws.{front-within, taken-length}
+use Rattle.rules.proofs.Acceptance.{few}
+use Rattle.care.proofs.LeastMasks.{masks-length}
 use Rattle.masks.proofs.print_accepted.Statement.{statement}
 use Rattle.masks.proofs.print_accepted.Tie as tie
 
@@ -29,21 +31,18 @@ print-tally-requires c κs = search needs
 
 array-share-prefix-words : tie.Need-array-share-prefix-words
 array-share-prefix-words c = let args = c .before .before .before .before .before .args in
-    front-within (now (args .file)) (args .n) (c .before .before .before .before .before .pre) (c .before .before .fill .last .1 .0)
-    (c .before .before .fill .ensures .1) _
+    front-within (c .before .before .fill .last .1 .0) _ (masks-length (now (args .file)) (args .n) (c .before .before .before .before .before .pre) (c .before .before .fill .ensures .1))
 
 slice-aggregate-print-masks : tie.Need-slice-aggregate-print-masks
 slice-aggregate-print-masks c = let args = c .before .before .before .before .before .before .args in
-    taken-length (now (args .file)) (args .n) (c .before .before .before .before .before .before .pre) (c .before .before .before .fill .last .1 .0)
-    (c .before .before .before .fill .ensures .1) _
+    taken-length (c .before .before .before .fill .last .1 .0) _ (masks-length (now (args .file)) (args .n) (c .before .before .before .before .before .before .pre) (c .before .before .before .fill .ensures .1))
 
 print-masks-requires : tie.Need-print-masks-requires
 print-masks-requires c κs = let args = c .before .before .before .before .before .before .args in
     let file = now (args .file) in
     let a = c .before .before .before .before .before .before .pre in (
       subst (λ (n : ℕ). Acceptance file n) (a .count) a,
-      sym (taken-length file (args .n) a (c .before .before .before .fill .last .1 .0)
-          (c .before .before .before .fill .ensures .1) _) ∙ a .count,
+      sym (taken-length (c .before .before .before .fill .last .1 .0) _ (masks-length file (args .n) a (c .before .before .before .fill .ensures .1))) ∙ a .count,
     )
 
 returns : tie.Need-returns

@@ -1,24 +1,22 @@
--- `signal::asks::is_quiet` meets its contract: the count of operands is what the kind uses.
--- Assumes nothing.
-use mathlib.Core.Path.{ap, _∙_}
-use lib.Dec.{ltb}
-use Rattle.netlist.specs.declared.record.Uses.{Uses}
-use Rattle.netlist.specs.declared.record.Record.{Record}
 use Rattle.netlist.specs.Layout.{designOf}
-use Rattle.netlist.specs.Kinds.{usesOf}
+use Rattle.netlist.specs.declared.record.Uses.{Uses}
+use lib.Dec.{ltb}
+use mathlib.Core.Path.{ap}
+use borrow.Author.Needs.{needs}
 use Rattle.signal.proofs.asks.is_quiet.Statement.{statement}
 use Rattle.signal.proofs.asks.is_quiet.Tie as tie
+use Rattle.signal.proofs.asks.is_quiet.Reads as reads
+use Rattle.signal.proofs.asks.is_quiet.Lts as lts
+use Rattle.netlist.proofs.layout.uses_at.Reads as uses-at-reads
 
-record-at-requires : tie.Need-record-at-requires
-record-at-requires c κs = c .before .pre
+-- src/asks.rt:165:9
+uses-at-requires : tie.Need-uses-at-requires
+uses-at-requires c κs = c .before .pre
 
-uses-requires : tie.Need-uses-requires
-uses-requires c κs = tt
-
+-- src/asks.rt:161:1
 returns : tie.Need-returns
 unfolding designOf
-returns c = ap (λ (u : Uses). ltb (u .count) 3) (c .before .uses .ensures) ∙ ap (λ (r : Record). ltb (usesOf (r .kind) .count) 3)
-    (c .before .before .record-at .ensures)
+returns c = ap (λ (u : Uses). ltb (u .count) 3) (c .before .uses-at .ensures)
 
 pub is-quiet-spec : {M : Type 1} → statement M
-is-quiet-spec = tie.close (tie.spec record-at-requires uses-requires returns)
+is-quiet-spec = tie.close (tie.spec uses-at-requires returns)

@@ -37,6 +37,9 @@ enum-told-10 c = c .match .keys10
 enum-told-11 : tie.Need-enum-told-11
 enum-told-11 c = c .match .keys11
 
+enum-told-12 : tie.Need-enum-told-12
+enum-told-12 c = c .match .keys12
+
 returns : tie.Need-returns
 returns c = (rw (c .enum-told .given .1), lit< tt)
 
@@ -70,6 +73,9 @@ returns-10 c = (rw (c .enum-told10 .given .1), lit< tt)
 returns-11 : tie.Need-returns-11
 returns-11 c = (rw (c .enum-told11 .given .1), lit< tt)
 
+returns-12 : tie.Need-returns-12
+returns-12 c = (rw (c .enum-told12 .given .1), lit< tt)
+
 pub number-spec : {M : Type 1} → statement M
 number-spec =
     tie.close
@@ -85,6 +91,7 @@ number-spec =
     enum-told-9
     enum-told-10
     enum-told-11
+    enum-told-12
     returns
     returns-2
     returns-3
@@ -95,4 +102,5 @@ number-spec =
     returns-8
     returns-9
     returns-10
-    returns-11)
+    returns-11
+    returns-12)

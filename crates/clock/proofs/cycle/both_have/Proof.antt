@@ -1,0 +1,16 @@
+use borrow.Author.Tests.{eq-eqb, ne-eqb}
+use Rattle.clock.proofs.cycle.both_have.Statement.{statement}
+use Rattle.clock.proofs.cycle.both_have.Tie as tie
+use Rattle.clock.proofs.cycle.both_have.Reads as reads
+use Rattle.clock.proofs.cycle.both_have.Lts as lts
+
+-- src/cycle.rt:75:1
+returns : tie.Need-returns
+returns c = rw (eq-eqb (c .before .args .board) (c .before .args .n) (c .if1 .taken))
+
+-- src/cycle.rt:75:1
+returns-2 : tie.Need-returns-2
+returns-2 c = rw (ne-eqb (c .before .args .board) (c .before .args .n) (c .if1 .left))
+
+pub both-have-spec : {M : Type 1} → statement M
+both-have-spec = tie.close (tie.spec returns returns-2)

@@ -1,0 +1,77 @@
+-- The operations `start` and `cycle`: their answers and each lent list afterwards, refused calls included.
+-- Assumes nothing.
+use mathlib.Core.Bool.{Bool, cond, not, _&&_}
+use mathlib.Core.List.{List}
+use Prim.Native.Nat.{ℕ, zero, suc, _^_}
+use lib.Dec.{eqb, ltb}
+use lib.ListN.{length}
+use Rattle.bits.specs.Lists.{wordAt}
+use Rattle.netlist.specs.Kinds.{isHeld}
+use Rattle.netlist.specs.Layout.{Design, designOf}
+use Rattle.netlist.specs.declared.record.Role.{Role}
+use Rattle.netlist.specs.declared.refusal.Refusal.the-variants.{BadList, WideWord}
+use Rattle.rules.specs.Check.{roleAt, checkOf}
+use Rattle.rules.specs.declared.check.Checked.{Checked}
+use Rattle.rules.specs.declared.check.Checked.the-variants.{Accepted, Refused as refused}
+use Rattle.clock.specs.Values.{unchanged, valuesOf, nextOf, startOf}
+use Rattle.clock.specs.declared.cycle.Clocked.{Clocked}
+use Rattle.clock.specs.declared.cycle.Clocked.the-variants.{Done, Refused}
+
+-- 1 to 10 of the file, then 11: "A mask, board or next list has not n words." `fit` tells whether the lists have the room for n records,
+-- and `rest` is the answer if they have.
+unfoldable pub answerAfter : Checked → (ℕ → Bool) → Clocked → Clocked
+answerAfter (Accepted n) fit rest = cond (fit n) rest (Refused BadList 0)
+answerAfter (refused r i) fit rest = Refused r i
+
+-- 12: "Before a cycle, an input's or register's word has a bit at its width or above (lowest record)."
+abbrev pub wordIsWide : Role → ℕ → ℕ → Bool
+wordIsWide role word w = isHeld role && not (ltb word (2 ^ w))
+
+abbrev pub isWide : Design → List ℕ → ℕ → Bool
+isWide d board i = wordIsWide (roleAt d i) (wordAt board i) (d .at i .width)
+
+-- The records from i on, `left` of them.
+unfoldable pub wideFrom : Design → List ℕ → ℕ → ℕ → Clocked
+wideFrom d board zero i = Done
+wideFrom d board (suc left) i = cond (isWide d board i) (Refused WideWord i) (wideFrom d board left (suc i))
+
+unfoldable pub wordsAnswer : Design → List ℕ → Clocked
+wordsAnswer d board = wideFrom d board (d .count) 0
+
+-- What a call leaves in a list lent to it: what it writes, or what was there. "No lent word or byte changes."
+abbrev pub leaves : Clocked → List ℕ → List ℕ → List ℕ
+leaves Done new old = new
+leaves (Refused r i) new old = old
+
+-- The answer of a start, and the board list that it leaves.
+pub record StartCall : Type 0 where
+  pub answer : Clocked
+  pub board : List ℕ
+
+abbrev pub startAnswer : List ℕ → List ℕ → Clocked
+startAnswer file board = answerAfter (checkOf file) (λ n. eqb (length board) n) Done
+
+unfoldable pub startCall : List ℕ → List ℕ → StartCall
+startCall file board =
+    let answer = startAnswer file board in
+    record { answer = answer; board = leaves answer (startOf (designOf file)) board }
+
+-- The answer of a cycle, and the lists that it leaves.
+pub record CycleCall : Type 0 where
+  pub answer : Clocked
+  pub board : List ℕ
+  pub next : List ℕ
+
+abbrev pub cycleAnswer : List ℕ → List ℕ → List ℕ → Clocked
+cycleAnswer file board next =
+    answerAfter (checkOf file) (λ n. eqb (length board) n && eqb (length next) n) (wordsAnswer (designOf file) board)
+
+-- A cycle in which each value may be changed right after it is worked out, and the plain one.
+unfoldable pub cycleWith : (ℕ → ℕ → ℕ) → List ℕ → List ℕ → List ℕ → CycleCall
+cycleWith change file board next =
+    let answer = cycleAnswer file board next in
+    let values = valuesOf (designOf file) change board in
+    record { answer = answer; board = leaves answer values board; next = leaves answer (nextOf (designOf file) values) next }
+
+abbrev pub cycleCall : List ℕ → List ℕ → List ℕ → CycleCall
+cycleCall = cycleWith unchanged

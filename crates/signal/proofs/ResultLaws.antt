@@ -1,0 +1,150 @@
+-- The law that what a record asks is enough, kind by kind: where two runs agree on what is asked with D, the results agree on D. And a
+-- result depends on the words of records below it alone. Assumes nothing. The crates above use these laws and look at no kind.
+use mathlib.Core.Path.{_≡_, refl, ap, subst}
+use mathlib.Core.Bool.{Bool, true, false, cond}
+use mathlib.Core.Logic.{_⊎_, inl, inr}
+use mathlib.Core.List.{List, [], _∷_}
+use Prim.Native.Nat.{ℕ, zero, suc, _^_, _≤_, _<_}
+use native.Mathlib.Omega.{arith}
+use lib.Dec.{eqb, ltb, eqb·suc-zero}
+use Rattle.bits.specs.Masks.{Agree}
+use Rattle.bits.specs.Words.{lowMask}
+use Rattle.bits.proofs.Agreement.{agree-refl, agree-zero, agree-and, agree-or, agree-xor, agree-equal, agree-cut, agree-extract, agree-concat}
+use Rattle.bits.proofs.Congruence.{agree-sum, agree-difference, agree-product}
+use Rattle.bits.proofs.Order.{meet-right, within-lt}
+use Rattle.netlist.specs.Limits.{maxWidth}
+use Rattle.netlist.specs.Kinds.{usesOf, widthRules, operandsOf, isHeld}
+use Rattle.netlist.specs.Layout.{Design}
+use Rattle.netlist.specs.Rules.{AllHold}
+use Rattle.netlist.specs.declared.record.Kind.{Kind}
+use Rattle.netlist.specs.declared.record.Kind.the-variants.{Input, Constant, Register, Output, Extract, Concat, And, Or, Xor, Mux, Add, Sub, Mul, Equal, Below}
+use Rattle.netlist.specs.declared.record.Record.{Record}
+use Rattle.netlist.specs.declared.record.Role.{Role}
+use Rattle.netlist.specs.declared.record.Role.the-variants.{Input as input, Register as register, Output as output, Gate as gate}
+use Rattle.rules.specs.Check.{roleAt, operandLimit, namesRules, operandRules, widthRulesAt}
+use Rattle.rules.specs.Sound.{Sound}
+use Rattle.rules.proofs.SoundLaws.{operands-below}
+use Rattle.signal.specs.Asks.{allIfAny, asksOf, caredOf, asked}
+use Rattle.signal.specs.Results.{resultOf, resultAt}
+use Rattle.signal.specs.declared.asks.Ask.{Ask}
+
+-- ---- what two runs have in common at an operand
+
+-- Two runs at an operand of which a mask is asked: its values agree on the mask, and both lie within its width. A rule that goes by the
+-- operand's own record, say by its being a constant, finds its premise here.
+pub record Met (at : ℕ → Record) (v v′ : ℕ → ℕ) (x : Ask) : Type 0 where
+  pub agree : Agree (x .mask) (v (x .operand)) (v′ (x .operand))
+  pub first : v (x .operand) < 2 ^ at (x .operand) .width
+  pub second : v′ (x .operand) < 2 ^ at (x .operand) .width
+
+abbrev pub AllMet : (ℕ → Record) → (ℕ → ℕ) → (ℕ → ℕ) → List Ask → Type 0
+AllMet at v v′ [] = Unit {0}
+AllMet at v v′ (x ∷ xs) = Met at v v′ x × AllMet at v v′ xs
+
+-- ---- choices and comparisons
+
+agree-choice : {D y y′ z z′ : ℕ} (b : Bool) → Agree D y y′ → Agree D z z′ → Agree D (cond b y z) (cond b y′ z′)
+agree-choice true h g = h
+agree-choice false h g = g
+
+-- values that agree on all bits if D is not 0 are equal, if it is not
+any-equal : (w D : ℕ) {x y : ℕ} → x < 2 ^ w → y < 2 ^ w → Agree (allIfAny w D) x y → (D ≡ 0) ⊎ (x ≡ y)
+any-equal w zero h g a = inl refl
+any-equal w (suc D) {x} {y} h g a = inr (agree-equal w h g (subst (λ (t : Bool). Agree (cond t 0 (lowMask w)) x y) (eqb·suc-zero D) a))
+
+agree-test : {D x x′ y y′ : ℕ} (f : ℕ → ℕ → Bool) → (D ≡ 0) ⊎ (x ≡ x′) → (D ≡ 0) ⊎ (y ≡ y′) → Agree D (cond (f x y) 1 0) (cond (f x′ y′) 1 0)
+agree-test f (inl e) h = rw e (agree-zero _ _)
+agree-test f (inr e) (inl g) = rw g (agree-zero _ _)
+agree-test f (inr e) (inr g) = rw (e, g) (agree-refl _ _)
+
+-- ---- the law, kind by kind
+
+module _ (at : ℕ → Record) (v v′ : ℕ → ℕ) {w D : ℕ} (low : D < 2 ^ w) (narrow : w ≤ maxWidth) where
+  compared : (f : ℕ → ℕ → Bool) {a b : ℕ}
+      → AllMet at v v′ (record { operand = a; mask = allIfAny (at a .width) D } ∷ record { operand = b; mask = allIfAny (at b .width) D } ∷ [])
+      → Agree D (cond (f (v a) (v b)) 1 0) (cond (f (v′ a) (v′ b)) 1 0)
+  compared f {a} {b} m =
+      agree-test f (any-equal (at a .width) D (m .0 .first) (m .0 .second) (m .0 .agree))
+      (any-equal (at b .width) D (m .1 .0 .first) (m .1 .0 .second) (m .1 .0 .agree))
+
+  selected : (a : ℕ) → at a .width ≡ 1 → {mask : ℕ} → mask ≡ 1 → Met at v v′ (record { operand = a; mask = mask }) → v a ≡ v′ a
+  selected a e q m =
+      agree-equal 1 (subst (λ (u : ℕ). v a < 2 ^ u) e (m .first)) (subst (λ (u : ℕ). v′ a < 2 ^ u) e (m .second))
+      (subst (λ (n : ℕ). Agree n (v a) (v′ a)) q (m .agree))
+
+  pub results-agree : (kind : Kind) (own own′ : ℕ) → at (usesOf kind .a) .width ≤ maxWidth
+      → AllHold (widthRules kind w (at (usesOf kind .a) .width) (at (usesOf kind .b) .width) (at (usesOf kind .c) .width))
+      → (isHeld (usesOf kind .role) ≡ true → Agree D own own′) → (isHeld (usesOf kind .role) ≡ false → AllMet at v v′ (asksOf at kind D))
+      → Agree D (resultOf kind w (at (usesOf kind .b) .width) own (v (usesOf kind .a)) (v (usesOf kind .b)) (v (usesOf kind .c)))
+      (resultOf kind w (at (usesOf kind .b) .width) own′ (v′ (usesOf kind .a)) (v′ (usesOf kind .b)) (v′ (usesOf kind .c)))
+  results-agree Input own own′ n r held met = held refl
+  results-agree (Constant k) own own′ n r held met = agree-refl D k
+  results-agree (Register a k) own own′ n r held met = held refl
+  results-agree (Output a) own own′ n r held met = met refl .0 .agree
+  results-agree (Extract a k) own own′ n r held met = agree-extract w k low (omega arith) (met refl .0 .agree)
+  results-agree (Concat a b) own own′ n r held met =
+      let m = met refl in
+      agree-cut w low (agree-concat (at b .width) (m .1 .0 .first) (m .1 .0 .second) (m .0 .agree) (m .1 .0 .agree))
+  results-agree (And a b) own own′ n r held met = agree-and (met refl .0 .agree) (met refl .1 .0 .agree)
+  results-agree (Or a b) own own′ n r held met = agree-or (met refl .0 .agree) (met refl .1 .0 .agree)
+  results-agree (Xor a b) own own′ n r held met = agree-xor (met refl .0 .agree) (met refl .1 .0 .agree)
+  results-agree (Mux a b c) own own′ n r held met =
+      let m = met refl in
+      rw (selected a (r .0) refl (m .0)) (agree-choice (eqb (v′ a) 1) (m .1 .0 .agree) (m .1 .1 .0 .agree))
+  results-agree (Add a b) own own′ n r held met = agree-sum w low narrow (met refl .0 .agree) (met refl .1 .0 .agree)
+  results-agree (Sub a b) own own′ n r held met = agree-difference w low narrow (met refl .0 .agree) (met refl .1 .0 .agree)
+  results-agree (Mul a b) own own′ n r held met = agree-product w low narrow (met refl .0 .agree) (met refl .1 .0 .agree)
+  results-agree (Equal a b) own own′ n r held met = compared eqb (met refl)
+  results-agree (Below a b) own own′ n r held met = compared ltb (met refl)
+
+-- the law for the records of a sound design
+module _ (d : Design) (s : Sound d) (i : ℕ) (h : i < d .count) (v v′ : ℕ → ℕ) where
+  pub result-agree : (m : ℕ) → (isHeld (roleAt d i) ≡ true → Agree (caredOf (d .at i) m) (v i) (v′ i))
+      → (isHeld (roleAt d i) ≡ false → AllMet (d .at) v v′ (asked (d .at) i m))
+      → Agree (caredOf (d .at i) m) (resultAt (d .at) v i) (resultAt (d .at) v′ i)
+  unfolding asked resultAt widthRulesAt
+  result-agree m held met =
+      let r = s .each i h in
+      let o = operands-below d s i h in
+      results-agree (d .at) v v′ (within-lt (d .at i .width) (meet-right m (d .at i .keep)) (r .keep)) (r .narrow) (d .at i .kind) (v i) (v′ i)
+      (s .each (usesOf (d .at i .kind) .a) (o .a) .narrow) (r .widths) held met
+
+-- ---- what a result depends on
+
+-- a result hangs on the operands that the kind uses, and on the record's own word where that counts
+module _ (d : Design) (limit : ℕ) (v v′ : ℕ → ℕ) (same : (j : ℕ) → j < limit → v j ≡ v′ j) where
+  results-same : (kind : Kind) (w wb own own′ : ℕ) → (isHeld (usesOf kind .role) ≡ true → own ≡ own′)
+      → (isHeld (usesOf kind .role) ≡ false → AllHold (namesRules d limit (operandsOf (usesOf kind))))
+      → resultOf kind w wb own (v (usesOf kind .a)) (v (usesOf kind .b)) (v (usesOf kind .c))
+      ≡ resultOf kind w wb own′ (v′ (usesOf kind .a)) (v′ (usesOf kind .b)) (v′ (usesOf kind .c))
+  unfolding namesRules operandsOf
+  results-same Input w wb own own′ held named = held refl
+  results-same (Constant k) w wb own own′ held named = refl
+  results-same (Register a k) w wb own own′ held named = held refl
+  results-same (Output a) w wb own own′ held named = same a (named refl .0)
+  results-same (Extract a k) w wb own own′ held named = rw (same a (named refl .0))
+  results-same (Concat a b) w wb own own′ held named = rw (same a (named refl .0), same b (named refl .1 .1 .0))
+  results-same (And a b) w wb own own′ held named = rw (same a (named refl .0), same b (named refl .1 .1 .0))
+  results-same (Or a b) w wb own own′ held named = rw (same a (named refl .0), same b (named refl .1 .1 .0))
+  results-same (Xor a b) w wb own own′ held named = rw (same a (named refl .0), same b (named refl .1 .1 .0))
+  results-same (Mux a b c) w wb own own′ held named = rw (same a (named refl .0), same b (named refl .1 .1 .0), same c (named refl .1 .1 .1 .1 .0))
+  results-same (Add a b) w wb own own′ held named = rw (same a (named refl .0), same b (named refl .1 .1 .0))
+  results-same (Sub a b) w wb own own′ held named = rw (same a (named refl .0), same b (named refl .1 .1 .0))
+  results-same (Mul a b) w wb own own′ held named = rw (same a (named refl .0), same b (named refl .1 .1 .0))
+  results-same (Equal a b) w wb own own′ held named = rw (same a (named refl .0), same b (named refl .1 .1 .0))
+  results-same (Below a b) w wb own own′ held named = rw (same a (named refl .0), same b (named refl .1 .1 .0))
+
+-- a record whose own word does not count names records below it
+limit-own : (role : Role) (n i : ℕ) → isHeld role ≡ false → operandLimit role n i ≡ i
+limit-own input n i e = absurd (let z : _≡_ {A = ℕ} 0 1 = cc in omega arith)
+limit-own (register a k) n i e = absurd (let z : _≡_ {A = ℕ} 0 1 = cc in omega arith)
+limit-own output n i e = refl
+limit-own gate n i e = refl
+
+module _ (d : Design) (s : Sound d) (i : ℕ) (h : i < d .count) (v v′ : ℕ → ℕ) where
+  pub result-same : ((j : ℕ) → j < i → v j ≡ v′ j) → (isHeld (roleAt d i) ≡ true → v i ≡ v′ i) → resultAt (d .at) v i ≡ resultAt (d .at) v′ i
+  unfolding resultAt operandRules
+  result-same same held =
+      let kind = d .at i .kind in
+      results-same d i v v′ same kind (d .at i .width) (d .at (usesOf kind .b) .width) (v i) (v′ i) held
+      (λ e. subst (λ (limit : ℕ). AllHold (namesRules d limit (operandsOf (usesOf kind)))) (limit-own (usesOf kind .role) (d .count) i e) (s .each i h .operands))

@@ -1,0 +1,53 @@
+-- What a call of the test port answers, and what it does with the byte lists lent to it, refused calls included.
+-- Assumes nothing.
+use mathlib.Core.Bool.{_&&_}
+use mathlib.Core.List.{List}
+use Prim.Native.Nat.{ℕ, _*_, _^_, _<_}
+use lib.Dec.{eqb}
+use lib.ListN.{length}
+use Rattle.bits.specs.Bytes.{wordsIn, wordBytes}
+use Rattle.netlist.specs.Layout.{designOf, countOf}
+use Rattle.netlist.specs.Refusals.{numberOf}
+use Rattle.rules.specs.Check.{checkOf}
+use Rattle.clock.specs.Call.{answerAfter, wordsAnswer, leaves, StartCall, CycleCall}
+use Rattle.clock.specs.Values.{unchanged, valuesOf, nextOf, startOf}
+use Rattle.clock.specs.declared.cycle.Clocked.{Clocked}
+use Rattle.clock.specs.declared.cycle.Clocked.the-variants.{Done, Refused}
+use Rattle.desktop.specs.Answer.{refusedAnswer}
+
+-- The answer as one number: a refusal as the desktop has it, and 0 for a call that was accepted.
+unfoldable pub clockedAnswer : Clocked → ℕ
+clockedAnswer Done = 0
+clockedAnswer (Refused r i) = refusedAnswer (numberOf r) i
+
+-- The record of a refusal has room in that number.
+abbrev pub LowRecord : Clocked → Type 0
+LowRecord Done = Unit {0}
+LowRecord (Refused r i) = i < 2 ^ 32
+
+-- A start on a board list of 8 × n bytes.
+unfoldable pub startBuffer : List ℕ → List ℕ → StartCall
+startBuffer file board =
+    let answer = answerAfter (checkOf file) (λ n. eqb (length board) (8 * n)) Done in
+    record { answer = answer; board = leaves answer (wordBytes (startOf (designOf file))) board }
+
+-- The words that a board list of bytes holds, the values of a cycle from them, and the next states.
+abbrev pub bufferWords : List ℕ → List ℕ → List ℕ
+bufferWords file board = wordsIn board (countOf file)
+
+abbrev pub bufferValues : List ℕ → List ℕ → List ℕ
+bufferValues file board = valuesOf (designOf file) unchanged (bufferWords file board)
+
+abbrev pub bufferNext : List ℕ → List ℕ → List ℕ
+bufferNext file board = nextOf (designOf file) (bufferValues file board)
+
+-- A cycle on lists of 8 × n bytes.
+unfoldable pub cycleBuffers : List ℕ → List ℕ → List ℕ → CycleCall
+cycleBuffers file board next =
+    let fit = λ n. eqb (length board) (8 * n) && eqb (length next) (8 * n) in
+    let answer = answerAfter (checkOf file) fit (wordsAnswer (designOf file) (bufferWords file board)) in
+    record {
+      answer = answer;
+      board = leaves answer (wordBytes (bufferValues file board)) board;
+      next = leaves answer (wordBytes (bufferNext file board)) next;
+    }

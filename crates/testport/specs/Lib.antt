@@ -1,0 +1,3 @@
+-- What the functions of the test port answer.
+-- Assumes nothing.
+pub mod Buffers

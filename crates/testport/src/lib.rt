@@ -1,0 +1,99 @@
+// The test port: start and cycle on byte lists, for the outside tests and the benchmark. It is no part of the desktop's interface.
+// A caller in C is checked by nothing: it passes lists that do not overlap.
+use bits::bytes::read_words;
+use bits::bytes::write_words;
+use clock::cycle::Clocked;
+use clock::cycle::both_have;
+use clock::cycle::run;
+use clock::states::reset;
+use desktop::refused;
+use netlist::record::Record;
+use netlist::refusal::Refusal;
+use rules::check::Checked;
+use rules::check::check;
+ghost use mathlib.Core.Path.{_≡_};
+ghost use Prim.Native.Nat.{_*_};
+ghost use lib.ListN.{length};
+ghost use Rattle.bits.specs.Bytes.{wordsIn, wordBytes};
+ghost use Rattle.netlist.specs.Layout.{designOf};
+ghost use Rattle.rules.specs.Sound.{Acceptance};
+ghost use Rattle.clock.specs.Call.{wordsAnswer, leaves};
+ghost use Rattle.clock.specs.Values.{startOf};
+ghost use Rattle.testport.specs.Buffers.{clockedAnswer, LowRecord, startBuffer, cycleBuffers, bufferValues, bufferNext};
+
+// The answer as one number: 0, or the refusal and its record.
+fn answer_of(clocked: Clocked) -> u64
+    requires { ⌜ LowRecord clocked ⌝ }
+    ensures { λ r. ⌜ r ≡ clockedAnswer clocked ⌝ }
+{
+    match clocked {
+        Clocked::Done => 0,
+        Clocked::Refused(r, i) => refused(r.number(), i as u64),
+    }
+}
+
+// Fills a buffer of 8 × n bytes with the words after a start.
+fn reset_buffer(file: &[u8], board: &mut [u8], n: usize)
+    requires { ⌜ Acceptance (now file) n × (length (now board) ≡ 8 * n) ⌝ }
+    ensures { λ r. ⌜ now (board .exit) ≡ wordBytes (startOf (designOf (now (file .entry)))) ⌝ }
+{
+    let mut words: [u64; Record::MAX_COUNT] = [0; Record::MAX_COUNT];
+    reset(file, &mut words[..n]);
+    write_words(board, &words[..n]);
+}
+
+// Runs a cycle on buffers of 8 × n bytes, unless a word is refused.
+fn run_buffers(file: &[u8], board: &mut [u8], next: &mut [u8], n: usize) -> Clocked
+    requires { ⌜ Acceptance (now file) n × (length (now board) ≡ 8 * n) × (length (now next) ≡ 8 * n) ⌝ }
+    ensures answer { λ r. ⌜ r ≡ wordsAnswer (designOf (now (file .entry))) (wordsIn (now (board .entry)) n) ⌝ }
+    ensures board { λ r. ⌜ now (board .exit) ≡ leaves r (wordBytes (bufferValues (now (file .entry)) (now (board .entry)))) (now (board .entry)) ⌝ }
+    ensures next { λ r. ⌜ now (next .exit) ≡ leaves r (wordBytes (bufferNext (now (file .entry)) (now (board .entry)))) (now (next .entry)) ⌝ }
+{
+    let mut words: [u64; Record::MAX_COUNT] = [0; Record::MAX_COUNT];
+    let mut states: [u64; Record::MAX_COUNT] = [0; Record::MAX_COUNT];
+    read_words(&mut words[..n], board);
+    match run(file, &mut words[..n], &mut states[..n]) {
+        Clocked::Done => {
+            write_words(board, &words[..n]);
+            write_words(next, &states[..n]);
+            Clocked::Done
+        }
+        Clocked::Refused(r, i) => Clocked::Refused(r, i),
+    }
+}
+
+// Writes the reset states of a file's design into a board list of 8 × n bytes.
+#[no_mangle]
+pub extern "C" fn port_start(file: &[u8], board: &mut [u8]) -> u64
+    ensures answer { λ r. ⌜ r ≡ clockedAnswer (startBuffer (now (file .entry)) (now (board .entry)) .answer) ⌝ }
+    ensures board { λ r. ⌜ now (board .exit) ≡ startBuffer (now (file .entry)) (now (board .entry)) .board ⌝ }
+{
+    match check(file) {
+        Checked::Accepted(n) => {
+            if board.len() != 8 * n {
+                return refused(Refusal::BadList.number(), 0);
+            }
+            reset_buffer(file, board, n);
+            0
+        }
+        Checked::Refused(r, i) => refused(r.number(), i as u64),
+    }
+}
+
+// Runs one cycle of a file's design on lists of 8 × n bytes.
+#[no_mangle]
+pub extern "C" fn port_cycle(file: &[u8], board: &mut [u8], next: &mut [u8]) -> u64
+    ensures answer { λ r. ⌜ r ≡ clockedAnswer (cycleBuffers (now (file .entry)) (now (board .entry)) (now (next .entry)) .answer) ⌝ }
+    ensures board { λ r. ⌜ now (board .exit) ≡ cycleBuffers (now (file .entry)) (now (board .entry)) (now (next .entry)) .board ⌝ }
+    ensures next { λ r. ⌜ now (next .exit) ≡ cycleBuffers (now (file .entry)) (now (board .entry)) (now (next .entry)) .next ⌝ }
+{
+    match check(file) {
+        Checked::Accepted(n) => {
+            if !both_have(board.len(), next.len(), 8 * n) {
+                return refused(Refusal::BadList.number(), 0);
+            }
+            answer_of(run_buffers(file, board, next, n))
+        }
+        Checked::Refused(r, i) => refused(r.number(), i as u64),
+    }
+}

@@ -1,0 +1,133 @@
+/* The plain model's start and cycle on lists of little-endian words.
+   Assumes that the file and the lists do not overlap. */
+
+#include "model.h"
+#include "record.h"
+
+static uint64_t word_at(const uint8_t *list, uint32_t number)
+{
+    return read_64(list + 8 * (size_t)number);
+}
+
+static void put_word(uint8_t *list, uint32_t number, uint64_t word)
+{
+    write_64(list + 8 * (size_t)number, word);
+}
+
+/* Sums, differences and products modulo 2^64, of which the width takes the
+   low bits, and the comparisons. */
+static uint64_t worked_out(uint8_t kind, uint64_t a, uint64_t b)
+{
+    switch (kind) {
+    case KIND_ADD:
+        return a + b;
+    case KIND_SUB:
+        return a - b;
+    case KIND_MUL:
+        return a * b;
+    case KIND_EQUAL:
+        return a == b;
+    default:
+        return a < b;
+    }
+}
+
+/* The record's result, before its keep word clears bits. The board holds the
+   values of the earlier records, and an input's or register's own word. An
+   unused operand is 0 and names a word of the board all the same. */
+static uint64_t result(const uint8_t *file, uint32_t number,
+                       const uint8_t *board)
+{
+    struct record record = read_record(file, number);
+    uint64_t full = width_mask(record.width);
+    uint64_t a = word_at(board, record.operand[0]);
+    uint64_t b = word_at(board, record.operand[1]);
+    uint64_t c = word_at(board, record.operand[2]);
+
+    switch (record.kind) {
+    case KIND_INPUT:
+    case KIND_REGISTER:
+        return word_at(board, number);
+    case KIND_CONSTANT:
+        return record.k;
+    case KIND_OUTPUT:
+        return a;
+    case KIND_EXTRACT:
+        return a >> record.k & full;
+    case KIND_CONCAT:
+        return a << width_at(file, record.operand[1]) | b;
+    case KIND_AND:
+        return a & b;
+    case KIND_OR:
+        return a | b;
+    case KIND_XOR:
+        return a ^ b;
+    case KIND_MUX:
+        return a == 1 ? b : c;
+    default:
+        return worked_out(record.kind, a, b) & full;
+    }
+}
+
+/* Whether the word at this record is given to a cycle by its caller. */
+static int is_given(const uint8_t *file, uint32_t number)
+{
+    return kind_at(file, number) == KIND_INPUT
+        || kind_at(file, number) == KIND_REGISTER;
+}
+
+/* Refusal 12 for the lowest record it applies to, or 0. */
+static uint64_t board_refusal(const uint8_t *file, uint32_t count,
+                              const uint8_t *board)
+{
+    uint32_t i;
+
+    for (i = 0; i < count; i++)
+        if (is_given(file, i)
+            && (word_at(board, i) & ~width_mask(width_at(file, i))) != 0)
+            return model_refused(12, i);
+    return 0;
+}
+
+uint64_t model_start(const uint8_t *file, size_t length, uint8_t *board,
+                     size_t board_length)
+{
+    uint64_t answer = model_check(file, length);
+    uint32_t count = (uint32_t)answer, i;
+
+    if (answer >> 63)
+        return answer;
+    if (board_length != 8 * (size_t)count)
+        return model_refused(11, 0);
+    for (i = 0; i < count; i++) {
+        struct record record = read_record(file, i);
+
+        put_word(board, i, record.kind == KIND_REGISTER ? record.k : 0);
+    }
+    return 0;
+}
+
+uint64_t model_cycle(const uint8_t *file, size_t length, uint8_t *board,
+                     size_t board_length, uint8_t *next, size_t next_length)
+{
+    uint64_t answer = model_check(file, length);
+    uint32_t count = (uint32_t)answer, i;
+
+    if (answer >> 63)
+        return answer;
+    if (board_length != 8 * (size_t)count || next_length != board_length)
+        return model_refused(11, 0);
+    answer = board_refusal(file, count, board);
+    if (answer >> 63)
+        return answer;
+    for (i = 0; i < count; i++)
+        put_word(board, i,
+                 result(file, i, board) & read_record(file, i).keep);
+    for (i = 0; i < count; i++) {
+        struct record record = read_record(file, i);
+
+        put_word(next, i, record.kind == KIND_REGISTER
+                              ? word_at(board, record.operand[0]) : 0);
+    }
+    return 0;
+}
