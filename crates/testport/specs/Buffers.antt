@@ -1,6 +1,6 @@
 -- What a call of the test port answers, and what it does with the byte lists lent to it, refused calls included.
 -- Assumes nothing.
-use mathlib.Core.Bool.{_&&_}
+use mathlib.Core.Bool.{Bool, _&&_}
 use mathlib.Core.List.{List}
 use Prim.Native.Nat.{ℕ, _*_, _^_, _<_}
 use lib.Dec.{eqb}
@@ -8,7 +8,9 @@ use lib.ListN.{length}
 use Rattle.bits.specs.Bytes.{wordsIn, wordBytes}
 use Rattle.netlist.specs.Layout.{designOf, countOf}
 use Rattle.netlist.specs.Refusals.{numberOf}
+use mathlib.Core.Path.{_≡_}
 use Rattle.rules.specs.Check.{checkOf}
+use Rattle.rules.specs.Sound.{Acceptance}
 use Rattle.clock.specs.Call.{answerAfter, wordsAnswer, leaves, StartCall, CycleCall}
 use Rattle.clock.specs.Values.{unchanged, valuesOf, nextOf, startOf}
 use Rattle.clock.specs.declared.cycle.Clocked.{Clocked}
@@ -42,12 +44,22 @@ abbrev pub bufferNext : List ℕ → List ℕ → List ℕ
 bufferNext file board = nextOf (designOf file) (bufferValues file board)
 
 -- A cycle on lists of 8 × n bytes.
+abbrev pub buffersFit : List ℕ → List ℕ → ℕ → Bool
+buffersFit board next n = eqb (length board) (8 * n) && eqb (length next) (8 * n)
+
 unfoldable pub cycleBuffers : List ℕ → List ℕ → List ℕ → CycleCall
 cycleBuffers file board next =
-    let fit = λ n. eqb (length board) (8 * n) && eqb (length next) (8 * n) in
-    let answer = answerAfter (checkOf file) fit (wordsAnswer (designOf file) (bufferWords file board)) in
+    let answer = answerAfter (checkOf file) (buffersFit board next) (wordsAnswer (designOf file) (bufferWords file board)) in
     record {
       answer = answer;
       board = leaves answer (wordBytes (bufferValues file board)) board;
       next = leaves answer (wordBytes (bufferNext file board)) next;
     }
+
+-- What the function that runs a cycle on byte lists asks: an accepted file, and lists of the lengths that go with it.
+pub record Lent (file board next words states : List ℕ) : Type 0 where
+  pub accepted : Acceptance file (countOf file)
+  pub board-size : length board ≡ 8 * countOf file
+  pub next-size : length next ≡ 8 * countOf file
+  pub words-size : length words ≡ countOf file
+  pub states-size : length states ≡ countOf file

@@ -14,12 +14,12 @@ use rules::check::check;
 ghost use mathlib.Core.Path.{_≡_};
 ghost use Prim.Native.Nat.{_*_};
 ghost use lib.ListN.{length};
-ghost use Rattle.bits.specs.Bytes.{wordsIn, wordBytes};
+ghost use Rattle.bits.specs.Bytes.{wordBytes};
 ghost use Rattle.netlist.specs.Layout.{designOf};
 ghost use Rattle.rules.specs.Sound.{Acceptance};
 ghost use Rattle.clock.specs.Call.{wordsAnswer, leaves};
 ghost use Rattle.clock.specs.Values.{startOf};
-ghost use Rattle.testport.specs.Buffers.{clockedAnswer, LowRecord, startBuffer, cycleBuffers, bufferValues, bufferNext};
+ghost use Rattle.testport.specs.Buffers.{clockedAnswer, LowRecord, Lent, startBuffer, bufferWords, bufferValues, bufferNext, cycleBuffers};
 
 // The answer as one number: 0, or the refusal and its record.
 fn answer_of(clocked: Clocked) -> u64
@@ -42,24 +42,40 @@ fn reset_buffer(file: &[u8], board: &mut [u8], n: usize)
     write_words(board, &words[..n]);
 }
 
+// Runs a cycle on byte lists by way of lists of words, unless a word is refused.
+fn run_words(
+    file: &[u8],
+    board: &mut [u8],
+    next: &mut [u8],
+    words: &mut [u64],
+    states: &mut [u64],
+) -> Clocked
+    requires { ⌜ Lent (now file) (now board) (now next) (now words) (now states) ⌝ }
+    ensures answer { λ r. ⌜ r ≡ wordsAnswer (designOf (now (file .entry))) (bufferWords (now (file .entry)) (now (board .entry))) ⌝ }
+    ensures board { λ r. ⌜ now (board .exit) ≡ leaves r (wordBytes (bufferValues (now (file .entry)) (now (board .entry)))) (now (board .entry)) ⌝ }
+    ensures next { λ r. ⌜ now (next .exit) ≡ leaves r (wordBytes (bufferNext (now (file .entry)) (now (board .entry)))) (now (next .entry)) ⌝ }
+{
+    read_words(words, board);
+    match run(file, words, states) {
+        Clocked::Done => {
+            write_words(board, words);
+            write_words(next, states);
+            Clocked::Done
+        }
+        Clocked::Refused(r, i) => Clocked::Refused(r, i),
+    }
+}
+
 // Runs a cycle on buffers of 8 × n bytes, unless a word is refused.
 fn run_buffers(file: &[u8], board: &mut [u8], next: &mut [u8], n: usize) -> Clocked
     requires { ⌜ Acceptance (now file) n × (length (now board) ≡ 8 * n) × (length (now next) ≡ 8 * n) ⌝ }
-    ensures answer { λ r. ⌜ r ≡ wordsAnswer (designOf (now (file .entry))) (wordsIn (now (board .entry)) n) ⌝ }
+    ensures answer { λ r. ⌜ r ≡ wordsAnswer (designOf (now (file .entry))) (bufferWords (now (file .entry)) (now (board .entry))) ⌝ }
     ensures board { λ r. ⌜ now (board .exit) ≡ leaves r (wordBytes (bufferValues (now (file .entry)) (now (board .entry)))) (now (board .entry)) ⌝ }
     ensures next { λ r. ⌜ now (next .exit) ≡ leaves r (wordBytes (bufferNext (now (file .entry)) (now (board .entry)))) (now (next .entry)) ⌝ }
 {
     let mut words: [u64; Record::MAX_COUNT] = [0; Record::MAX_COUNT];
     let mut states: [u64; Record::MAX_COUNT] = [0; Record::MAX_COUNT];
-    read_words(&mut words[..n], board);
-    match run(file, &mut words[..n], &mut states[..n]) {
-        Clocked::Done => {
-            write_words(board, &words[..n]);
-            write_words(next, &states[..n]);
-            Clocked::Done
-        }
-        Clocked::Refused(r, i) => Clocked::Refused(r, i),
-    }
+    run_words(file, board, next, &mut words[..n], &mut states[..n])
 }
 
 // Writes the reset states of a file's design into a board list of 8 × n bytes.

@@ -1,3 +1,8 @@
+use Rattle.testport.specs.Buffers.{clockedAnswer, LowRecord}
+use Rattle.clock.specs.declared.cycle.Clocked.{Clocked}
+use Rattle.desktop.specs.Answer.{refusedAnswer}
+use Prim.Native.Nat.{ℕ}
+use mathlib.Core.Path.{sym, ap, subst, _∙_}
 use borrow.Author.Needs.{needs}
 use Rattle.testport.proofs.answer_of.Statement.{statement}
 use Rattle.testport.proofs.answer_of.Tie as tie
@@ -8,27 +13,29 @@ use Rattle.netlist.proofs.refusal.Refusal.number.Reads as number-reads
 
 -- src/lib.rt:30:26
 enum-told : tie.Need-enum-told
-enum-told c = search needs
+enum-told c = c .match .keys1
 
 -- src/lib.rt:31:26
 enum-known-clocked : tie.Need-enum-known-clocked
-enum-known-clocked c = search needs
+enum-known-clocked c = c .match .keys2
 
 -- src/lib.rt:31:43
 number-requires : tie.Need-number-requires
-number-requires c κs = search needs
+number-requires c κs = tt
 
 -- src/lib.rt:31:35
 refused-requires : tie.Need-refused-requires
-refused-requires c κs = ?
+refused-requires c κs = (c .number .ensures .1, subst LowRecord (c .before .before .clocked .given .1) (c .before .before .before .before .pre))
 
 -- src/lib.rt:25:1
 returns : tie.Need-returns
-returns c = ?
+unfolding clockedAnswer
+returns c = rw (c .enum-told .given .1)
 
 -- src/lib.rt:25:1
 returns-2 : tie.Need-returns-2
-returns-2 c = ?
+unfolding clockedAnswer
+returns-2 c = rw (c .before .before .before .clocked .given .1) (c .refused .ensures ∙ ap (λ (n : ℕ). refusedAnswer n (c .before .before .before .clocked .given .0 .1 .0)) (c .before .number .ensures .0))
 
 pub answer-of-spec : {M : Type 1} → statement M
 answer-of-spec =

@@ -1,118 +1,62 @@
+use Rattle.rules.proofs.Acceptance.{few}
+use Rattle.rules.specs.Sound.{Acceptance}
+use denote.Ref.{now}
+use lib.Seq.{length-take-le}
+use Prim.Native.Nat.{ℕ, _*_}
+use mathlib.Core.Path.{sym, ap, subst, _∙_}
 use borrow.Author.Needs.{needs}
 use Rattle.testport.proofs.run_buffers.Statement.{statement}
 use Rattle.testport.proofs.run_buffers.Tie as tie
 use Rattle.testport.proofs.run_buffers.Reads as reads
 use Rattle.testport.proofs.run_buffers.Lts as lts
-use Rattle.bits.proofs.bytes.read_words.Reads as read-words-reads
-use Rattle.bits.proofs.bytes.write_words.Reads as write-words-reads
-use Rattle.clock.proofs.cycle.run.Reads as run-reads
+use Rattle.testport.proofs.run_words.Reads as run-words-reads
 
--- src/lib.rt:54:16
+-- src/lib.rt:78:34
 array-borrow-prefix-words : tie.Need-array-borrow-prefix-words
-array-borrow-prefix-words c = ?
+array-borrow-prefix-words c = few (now (c .before .before .before .before .before .args .file)) (c .before .before .before .before .before .args .n) (c .before .before .before .before .before .pre .0)
 
--- src/lib.rt:54:16
-slice-aggregate-read-words : tie.Need-slice-aggregate-read-words
-slice-aggregate-read-words c = ?
+-- src/lib.rt:78:34
+slice-aggregate-run-words : tie.Need-slice-aggregate-run-words
+slice-aggregate-run-words c = sym (length-take-le (c .before .before .before .before .before .before .args .n) _ (few (now (c .before .before .before .before .before .before .args .file)) (c .before .before .before .before .before .before .args .n) (c .before .before .before .before .before .before .pre .0)))
 
--- src/lib.rt:54:5
-read-words-requires : tie.Need-read-words-requires
-read-words-requires c κs = ?
-
--- src/lib.rt:55:21
-array-borrow-prefix-words-2 : tie.Need-array-borrow-prefix-words-2
-array-borrow-prefix-words-2 c = ?
-
--- src/lib.rt:55:21
-slice-aggregate-run : tie.Need-slice-aggregate-run
-slice-aggregate-run c = ?
-
--- src/lib.rt:55:38
+-- src/lib.rt:78:51
 array-borrow-prefix-states : tie.Need-array-borrow-prefix-states
-array-borrow-prefix-states c = ?
+array-borrow-prefix-states c = few (now (c .before .before .before .before .before .before .args .file)) (c .before .before .before .before .before .before .args .n) (c .before .before .before .before .before .before .pre .0)
 
--- src/lib.rt:55:38
-slice-aggregate-run-2 : tie.Need-slice-aggregate-run-2
-slice-aggregate-run-2 c = ?
+-- src/lib.rt:78:51
+slice-aggregate-run-words-2 : tie.Need-slice-aggregate-run-words-2
+slice-aggregate-run-words-2 c = sym (length-take-le (c .before .before .before .before .before .before .before .args .n) _ (few (now (c .before .before .before .before .before .before .before .args .file)) (c .before .before .before .before .before .before .before .args .n) (c .before .before .before .before .before .before .before .pre .0)))
 
--- src/lib.rt:55:11
-run-requires : tie.Need-run-requires
-run-requires c κs = ?
+-- src/lib.rt:78:5
+run-words-requires : tie.Need-run-words-requires
+run-words-requires c κs = let args = c .before .before .before .before .before .before .before .args in
+    let file = now (args .file) in
+    let a = c .before .before .before .before .before .before .before .pre .0 in
+    let size = ap (λ (n : ℕ). 8 * n) (a .count) in
+    let words = length-take-le (args .n) _ (few file (args .n) a) ∙ a .count in
+    record { accepted = subst (Acceptance file) (a .count) a; board-size = c .before .before .before .before .before .before .before .pre .1 ∙ size; next-size = c .before .before .before .before .before .before .before .pre .2 ∙ size; words-size = words; states-size = words }
 
--- src/lib.rt:57:25
-enum-told : tie.Need-enum-told
-enum-told c = search needs
-
--- src/lib.rt:57:32
-array-share-prefix-words : tie.Need-array-share-prefix-words
-array-share-prefix-words c = ?
-
--- src/lib.rt:57:32
-slice-aggregate-write-words : tie.Need-slice-aggregate-write-words
-slice-aggregate-write-words c = ?
-
--- src/lib.rt:57:13
-write-words-requires : tie.Need-write-words-requires
-write-words-requires c κs = ?
-
--- src/lib.rt:58:31
-array-share-prefix-states : tie.Need-array-share-prefix-states
-array-share-prefix-states c = ?
-
--- src/lib.rt:58:31
-slice-aggregate-write-words-2 : tie.Need-slice-aggregate-write-words-2
-slice-aggregate-write-words-2 c = ?
-
--- src/lib.rt:58:13
-write-words-requires-2 : tie.Need-write-words-requires-2
-write-words-requires-2 c κs = ?
-
--- src/lib.rt:61:26
-enum-known-r : tie.Need-enum-known-r
-enum-known-r c = search needs
-
--- src/lib.rt:46:1
+-- src/lib.rt:70:1
 same-length : tie.Need-same-length
 same-length c = search needs
 
--- src/lib.rt:46:1
+-- src/lib.rt:70:1
 same-length-2 : tie.Need-same-length-2
 same-length-2 c = search needs
 
--- src/lib.rt:46:1
+-- src/lib.rt:70:1
 returns : tie.Need-returns
-returns c = ?
-
--- src/lib.rt:46:1
-same-length-3 : tie.Need-same-length-3
-same-length-3 c = search needs
-
--- src/lib.rt:46:1
-returns-2 : tie.Need-returns-2
-returns-2 c = ?
+returns c = c .before .before .before .before .before .before .run-words .ensures
 
 pub run-buffers-spec : {M : Type 1} → statement M
 run-buffers-spec =
     tie.close
     (tie.spec
     array-borrow-prefix-words
-    slice-aggregate-read-words
-    read-words-requires
-    array-borrow-prefix-words-2
-    slice-aggregate-run
+    slice-aggregate-run-words
     array-borrow-prefix-states
-    slice-aggregate-run-2
-    run-requires
-    enum-told
-    array-share-prefix-words
-    slice-aggregate-write-words
-    write-words-requires
-    array-share-prefix-states
-    slice-aggregate-write-words-2
-    write-words-requires-2
-    enum-known-r
+    slice-aggregate-run-words-2
+    run-words-requires
     same-length
     same-length-2
-    returns
-    same-length-3
-    returns-2)
+    returns)

@@ -1,0 +1,3 @@
+-- The laws of the byte lists, for the proofs of this crate.
+-- Assumes nothing.
+mod BufferLaws
