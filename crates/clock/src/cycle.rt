@@ -1,7 +1,7 @@
 // The operations `start` and `cycle`. Nothing is written before the last refusal has been ruled out.
 // Both ask nothing of their callers; the functions below them ask for an accepted file and lists of n words.
-use crate::states::load;
-use crate::states::reset;
+use crate::load::load;
+use crate::reset::reset;
 use crate::values::is_wide;
 use crate::values::work_out;
 use netlist::refusal::Refusal;

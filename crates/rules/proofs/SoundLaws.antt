@@ -77,12 +77,13 @@ k-64 d s i h =
     k-word (d .at i .kind) (d .at i .width) (d .at (u .a) .width) (d .at (u .b) .width) (d .at (u .c) .width) (r .widths)
     (word-64 d s i h (u .word) (r .word)) (s .each (u .a) (operands-below d s i h .a) .narrow)
 
--- a register's a is a record of the design and has the register's width
-pub record Loads (d : Design) (i a : ℕ) : Type 0 where
+-- a register's a is a record of the design and has the register's width, and its reset state has no more bits
+pub record Loads (d : Design) (i a k : ℕ) : Type 0 where
   pub below : a < d .count
   pub width : d .at a .width ≡ d .at i .width
+  pub reset : k < 2 ^ d .at i .width
 
-pub register-loads : (d : Design) (s : Sound d) (i : ℕ) (h : i < d .count) (a k : ℕ) → roleAt d i ≡ register a k → Loads d i a
+pub register-loads : (d : Design) (s : Sound d) (i : ℕ) (h : i < d .count) (a k : ℕ) → roleAt d i ≡ register a k → Loads d i a k
 unfolding widthRulesAt
 register-loads d s i h a k e =
     let q = is-register (d .at i .kind) a k e in
@@ -92,6 +93,7 @@ register-loads d s i h a k e =
           subst
           (λ (kind : Kind). AllHold (let u = usesOf kind in widthRules kind (d .at i .width) (d .at (u .a) .width) (d .at (u .b) .width) (d .at (u .c) .width)))
           q (s .each i h .widths) .0;
+      reset = subst (λ (kind : Kind). usesOf kind .word < 2 ^ d .at i .width) q (s .each i h .word);
     }
 
 -- the operands' rules look only at records below the limit

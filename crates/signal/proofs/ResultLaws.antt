@@ -1,6 +1,6 @@
 -- The law that what a record asks is enough, kind by kind: where two runs agree on what is asked with D, the results agree on D. And a
 -- result depends on the words of records below it alone. Assumes nothing. The crates above use these laws and look at no kind.
-use mathlib.Core.Path.{_≡_, refl, ap, subst}
+use mathlib.Core.Path.{_≡_, refl, subst}
 use mathlib.Core.Bool.{Bool, true, false, cond}
 use mathlib.Core.Logic.{_⊎_, inl, inr}
 use mathlib.Core.List.{List, [], _∷_}
@@ -24,7 +24,7 @@ use Rattle.netlist.specs.declared.record.Role.the-variants.{Input as input, Reg
 use Rattle.rules.specs.Check.{roleAt, operandLimit, namesRules, operandRules, widthRulesAt}
 use Rattle.rules.specs.Sound.{Sound}
 use Rattle.rules.proofs.SoundLaws.{operands-below}
-use Rattle.signal.specs.Asks.{allIfAny, asksOf, caredOf, asked}
+use Rattle.signal.specs.Asks.{ask, allIfAny, asksOf, caredOf, asked}
 use Rattle.signal.specs.Results.{resultOf, resultAt}
 use Rattle.signal.specs.declared.asks.Ask.{Ask}
 
@@ -61,16 +61,14 @@ agree-test f (inr e) (inr g) = rw (e, g) (agree-refl _ _)
 
 module _ (at : ℕ → Record) (v v′ : ℕ → ℕ) {w D : ℕ} (low : D < 2 ^ w) (narrow : w ≤ maxWidth) where
   compared : (f : ℕ → ℕ → Bool) {a b : ℕ}
-      → AllMet at v v′ (record { operand = a; mask = allIfAny (at a .width) D } ∷ record { operand = b; mask = allIfAny (at b .width) D } ∷ [])
+      → AllMet at v v′ (ask a (allIfAny (at a .width) D) ∷ ask b (allIfAny (at b .width) D) ∷ [])
       → Agree D (cond (f (v a) (v b)) 1 0) (cond (f (v′ a) (v′ b)) 1 0)
   compared f {a} {b} m =
       agree-test f (any-equal (at a .width) D (m .0 .first) (m .0 .second) (m .0 .agree))
       (any-equal (at b .width) D (m .1 .0 .first) (m .1 .0 .second) (m .1 .0 .agree))
 
-  selected : (a : ℕ) → at a .width ≡ 1 → {mask : ℕ} → mask ≡ 1 → Met at v v′ (record { operand = a; mask = mask }) → v a ≡ v′ a
-  selected a e q m =
-      agree-equal 1 (subst (λ (u : ℕ). v a < 2 ^ u) e (m .first)) (subst (λ (u : ℕ). v′ a < 2 ^ u) e (m .second))
-      (subst (λ (n : ℕ). Agree n (v a) (v′ a)) q (m .agree))
+  selected : (a : ℕ) → at a .width ≡ 1 → Met at v v′ (ask a 1) → v a ≡ v′ a
+  selected a e m = agree-equal 1 (subst (λ (u : ℕ). v a < 2 ^ u) e (m .first)) (subst (λ (u : ℕ). v′ a < 2 ^ u) e (m .second)) (m .agree)
 
   pub results-agree : (kind : Kind) (own own′ : ℕ) → at (usesOf kind .a) .width ≤ maxWidth
       → AllHold (widthRules kind w (at (usesOf kind .a) .width) (at (usesOf kind .b) .width) (at (usesOf kind .c) .width))
@@ -90,7 +88,7 @@ module _ (at : ℕ → Record) (v v′ : ℕ → ℕ) {w D : ℕ} (low : D < 2 ^
   results-agree (Xor a b) own own′ n r held met = agree-xor (met refl .0 .agree) (met refl .1 .0 .agree)
   results-agree (Mux a b c) own own′ n r held met =
       let m = met refl in
-      rw (selected a (r .0) refl (m .0)) (agree-choice (eqb (v′ a) 1) (m .1 .0 .agree) (m .1 .1 .0 .agree))
+      rw (selected a (r .0) (m .0)) (agree-choice (eqb (v′ a) 1) (m .1 .0 .agree) (m .1 .1 .0 .agree))
   results-agree (Add a b) own own′ n r held met = agree-sum w low narrow (met refl .0 .agree) (met refl .1 .0 .agree)
   results-agree (Sub a b) own own′ n r held met = agree-difference w low narrow (met refl .0 .agree) (met refl .1 .0 .agree)
   results-agree (Mul a b) own own′ n r held met = agree-product w low narrow (met refl .0 .agree) (met refl .1 .0 .agree)

@@ -5,7 +5,7 @@ use bits::bytes::write_words;
 use clock::cycle::Clocked;
 use clock::cycle::both_have;
 use clock::cycle::run;
-use clock::states::reset;
+use clock::reset::reset;
 use desktop::refused;
 use netlist::record::Record;
 use netlist::refusal::Refusal;

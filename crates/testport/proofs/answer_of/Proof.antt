@@ -1,38 +1,28 @@
-use Rattle.testport.specs.Buffers.{clockedAnswer, LowRecord}
-use Rattle.clock.specs.declared.cycle.Clocked.{Clocked}
-use Rattle.desktop.specs.Answer.{refusedAnswer}
+-- `testport::answer_of` meets its contract: each answer has its line in the definition.
+-- Assumes nothing.
+use mathlib.Core.Path.{ap, subst, _∙_}
 use Prim.Native.Nat.{ℕ}
-use mathlib.Core.Path.{sym, ap, subst, _∙_}
-use borrow.Author.Needs.{needs}
+use Rattle.desktop.specs.Answer.{refusedAnswer}
+use Rattle.testport.specs.Buffers.{clockedAnswer, LowRecord}
 use Rattle.testport.proofs.answer_of.Statement.{statement}
 use Rattle.testport.proofs.answer_of.Tie as tie
-use Rattle.testport.proofs.answer_of.Reads as reads
-use Rattle.testport.proofs.answer_of.Lts as lts
-use Rattle.desktop.proofs.refused.Reads as refused-reads
-use Rattle.netlist.proofs.refusal.Refusal.number.Reads as number-reads
 
--- src/lib.rt:30:26
 enum-told : tie.Need-enum-told
 enum-told c = c .match .keys1
 
--- src/lib.rt:31:26
 enum-known-clocked : tie.Need-enum-known-clocked
 enum-known-clocked c = c .match .keys2
 
--- src/lib.rt:31:43
 number-requires : tie.Need-number-requires
 number-requires c κs = tt
 
--- src/lib.rt:31:35
 refused-requires : tie.Need-refused-requires
 refused-requires c κs = (c .number .ensures .1, subst LowRecord (c .before .before .clocked .given .1) (c .before .before .before .before .pre))
 
--- src/lib.rt:25:1
 returns : tie.Need-returns
 unfolding clockedAnswer
 returns c = rw (c .enum-told .given .1)
 
--- src/lib.rt:25:1
 returns-2 : tie.Need-returns-2
 unfolding clockedAnswer
 returns-2 c = rw (c .before .before .before .clocked .given .1) (c .refused .ensures ∙ ap (λ (n : ℕ). refusedAnswer n (c .before .before .before .clocked .given .0 .1 .0)) (c .before .number .ensures .0))

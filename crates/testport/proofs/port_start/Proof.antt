@@ -1,82 +1,64 @@
-use Rattle.testport.specs.Buffers.{clockedAnswer}
-use Rattle.testport.proofs.BufferLaws.{start-ends}
-use Rattle.desktop.specs.Answer.{refusedAnswer}
-use Rattle.clock.specs.declared.cycle.Clocked.the-variants.{Done}
-use Rattle.clock.proofs.CallLaws.{answer-refused, answer-bad-list, answer-fit}
-use Rattle.rules.proofs.Acceptance.{accepted, refused-low, few}
-use Rattle.netlist.specs.Layout.{designOf}
-use denote.Ref.{now}
-use borrow.Author.Tests.{eq-eqb, ne-eqb}
+-- `testport::port_start` meets its contract: the three ends of a call, each as one number and the list it leaves.
+-- Assumes nothing.
+use mathlib.Core.Path.{sym, ap, _∙_}
+use Prim.Native.Nat.{ℕ, _*_}
+use native.Mathlib.Omega.{arith}
 use lib.ListN.{length}
 use lib.Dec.{eqb, lit<}
-use native.Mathlib.Omega.{arith}
-use Prim.Native.Nat.{ℕ, _*_}
-use mathlib.Core.Path.{sym, ap, subst, _∙_}
+use borrow.Author.Tests.{eq-eqb, ne-eqb}
 use borrow.Author.Needs.{needs}
+use denote.Ref.{now}
+use Rattle.rules.proofs.Acceptance.{accepted, refused-low, few}
+use Rattle.clock.specs.declared.cycle.Clocked.the-variants.{Done}
+use Rattle.clock.proofs.CallLaws.{answer-refused, answer-bad-list, answer-fit}
+use Rattle.desktop.specs.Answer.{refusedAnswer}
+use Rattle.testport.specs.Buffers.{clockedAnswer}
+use Rattle.testport.proofs.BufferLaws.{start-ends}
 use Rattle.testport.proofs.port_start.Statement.{statement}
 use Rattle.testport.proofs.port_start.Tie as tie
-use Rattle.testport.proofs.port_start.Reads as reads
-use Rattle.testport.proofs.port_start.Lts as lts
-use Rattle.desktop.proofs.refused.Reads as refused-reads
-use Rattle.netlist.proofs.refusal.Refusal.number.Reads as number-reads
-use Rattle.rules.proofs.check.check.Reads as check-reads
-use Rattle.testport.proofs.reset_buffer.Reads as reset-buffer-reads
 
--- src/lib.rt:87:11
 check-requires : tie.Need-check-requires
 check-requires c κs = tt
 
--- src/lib.rt:88:27
 enum-known-n : tie.Need-enum-known-n
 enum-known-n c = c .match .keys1
 
--- src/lib.rt:89:31
 mul-if1 : tie.Need-mul-if1
 mul-if1 c = let f = few (now (c .before .before .before .before .before .before .args .file)) _ (accepted (now (c .before .before .before .before .before .before .args .file)) _ (sym (c .before .before .before .check .ensures) ∙ c .before .n .given .1)) in omega arith
 
--- src/lib.rt:90:32
 number-requires : tie.Need-number-requires
 number-requires c κs = tt
 
--- src/lib.rt:90:17
 refused-requires : tie.Need-refused-requires
 refused-requires c κs = (c .number .ensures .1, lit< tt)
 
--- src/lib.rt:90:17
 returns : tie.Need-returns
 unfolding clockedAnswer
 returns c = let args = c .before .before .before .before .before .before .before .before .before .args in
     let b = start-ends (now (args .file)) (now (args .board)) (answer-bad-list (λ n. eqb (length (now (args .board))) (8 * n)) Done (sym (c .before .before .before .before .before .before .check .ensures) ∙ c .before .before .before .before .n .given .1) (ne-eqb _ _ (c .before .before .if1 .taken))) in
     (c .refused .ensures ∙ ap (λ (n : ℕ). refusedAnswer n 0) (c .before .number .ensures .0) ∙ ap clockedAnswer (b .0), b .1)
 
--- src/lib.rt:92:13
 reset-buffer-requires : tie.Need-reset-buffer-requires
 reset-buffer-requires c κs = (accepted (now (c .before .before .before .before .before .before .before .before .args .file)) _ (sym (c .before .before .before .before .before .check .ensures) ∙ c .before .before .before .n .given .1), c .before .if1 .left)
 
--- src/lib.rt:95:26
 enum-known-r : tie.Need-enum-known-r
 enum-known-r c = c .match .keys2
 
--- src/lib.rt:95:43
 number-requires-2 : tie.Need-number-requires-2
 number-requires-2 c κs = tt
 
--- src/lib.rt:95:35
 refused-requires-2 : tie.Need-refused-requires-2
 refused-requires-2 c κs = (c .number2 .ensures .1, let h = refused-low (now (c .before .before .before .before .before .before .before .args .file)) _ _ (sym (c .before .before .before .before .check .ensures) ∙ c .before .before .r .given .1) in omega arith)
 
--- src/lib.rt:82:1
 same-length : tie.Need-same-length
 same-length c = search needs
 
--- src/lib.rt:82:1
 returns-2 : tie.Need-returns-2
 unfolding clockedAnswer
 returns-2 c = let args = c .before .before .before .before .before .before .before .before .before .before .before .args in
     let b = start-ends (now (args .file)) (now (args .board)) (answer-fit (λ n. eqb (length (now (args .board))) (8 * n)) Done (sym (c .before .before .before .before .before .before .before .before .check .ensures) ∙ c .before .before .before .before .before .before .n .given .1) (eq-eqb _ _ (c .before .before .before .before .if1 .left))) in
     (ap clockedAnswer (b .0), c .before .before .reset-buffer .ensures ∙ b .1)
 
--- src/lib.rt:82:1
 returns-3 : tie.Need-returns-3
 unfolding clockedAnswer
 returns-3 c = let args = c .before .before .before .before .before .before .before .before .args in

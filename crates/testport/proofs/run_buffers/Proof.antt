@@ -1,33 +1,27 @@
-use Rattle.rules.proofs.Acceptance.{few}
-use Rattle.rules.specs.Sound.{Acceptance}
-use denote.Ref.{now}
-use lib.Seq.{length-take-le}
-use Prim.Native.Nat.{ℕ, _*_}
+-- `testport::run_buffers` meets its contract: the fronts of two local lists are as long as the file has records.
+-- Assumes nothing.
 use mathlib.Core.Path.{sym, ap, subst, _∙_}
+use Prim.Native.Nat.{ℕ, _*_}
+use lib.Seq.{length-take-le}
 use borrow.Author.Needs.{needs}
+use denote.Ref.{now}
+use Rattle.rules.specs.Sound.{Acceptance}
+use Rattle.rules.proofs.Acceptance.{few}
 use Rattle.testport.proofs.run_buffers.Statement.{statement}
 use Rattle.testport.proofs.run_buffers.Tie as tie
-use Rattle.testport.proofs.run_buffers.Reads as reads
-use Rattle.testport.proofs.run_buffers.Lts as lts
-use Rattle.testport.proofs.run_words.Reads as run-words-reads
 
--- src/lib.rt:78:34
 array-borrow-prefix-words : tie.Need-array-borrow-prefix-words
 array-borrow-prefix-words c = few (now (c .before .before .before .before .before .args .file)) (c .before .before .before .before .before .args .n) (c .before .before .before .before .before .pre .0)
 
--- src/lib.rt:78:34
 slice-aggregate-run-words : tie.Need-slice-aggregate-run-words
 slice-aggregate-run-words c = sym (length-take-le (c .before .before .before .before .before .before .args .n) _ (few (now (c .before .before .before .before .before .before .args .file)) (c .before .before .before .before .before .before .args .n) (c .before .before .before .before .before .before .pre .0)))
 
--- src/lib.rt:78:51
 array-borrow-prefix-states : tie.Need-array-borrow-prefix-states
 array-borrow-prefix-states c = few (now (c .before .before .before .before .before .before .args .file)) (c .before .before .before .before .before .before .args .n) (c .before .before .before .before .before .before .pre .0)
 
--- src/lib.rt:78:51
 slice-aggregate-run-words-2 : tie.Need-slice-aggregate-run-words-2
 slice-aggregate-run-words-2 c = sym (length-take-le (c .before .before .before .before .before .before .before .args .n) _ (few (now (c .before .before .before .before .before .before .before .args .file)) (c .before .before .before .before .before .before .before .args .n) (c .before .before .before .before .before .before .before .pre .0)))
 
--- src/lib.rt:78:5
 run-words-requires : tie.Need-run-words-requires
 run-words-requires c κs = let args = c .before .before .before .before .before .before .before .args in
     let file = now (args .file) in
@@ -36,15 +30,12 @@ run-words-requires c κs = let args = c .before .before .before .before .before 
     let words = length-take-le (args .n) _ (few file (args .n) a) ∙ a .count in
     record { accepted = subst (Acceptance file) (a .count) a; board-size = c .before .before .before .before .before .before .before .pre .1 ∙ size; next-size = c .before .before .before .before .before .before .before .pre .2 ∙ size; words-size = words; states-size = words }
 
--- src/lib.rt:70:1
 same-length : tie.Need-same-length
 same-length c = search needs
 
--- src/lib.rt:70:1
 same-length-2 : tie.Need-same-length-2
 same-length-2 c = search needs
 
--- src/lib.rt:70:1
 returns : tie.Need-returns
 returns c = c .before .before .before .before .before .before .run-words .ensures
 

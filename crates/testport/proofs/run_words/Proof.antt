@@ -1,68 +1,54 @@
-use Rattle.testport.proofs.BufferLaws.{words-read, words-length, values-left, next-left, values-length, next-length}
-use Rattle.clock.specs.Call.{wordsAnswer}
-use Rattle.netlist.specs.Layout.{designOf}
-use Rattle.bits.specs.Bytes.{wordBytes}
-use denote.Ref.{now}
-use Prim.Native.Nat.{ℕ, _*_}
+-- `testport::run_words` meets its contract: the words are read, the cycle is run, and its lists are written as bytes unless it was refused.
+-- Assumes nothing.
 use mathlib.Core.Path.{refl, sym, ap, _∙_}
+use Prim.Native.Nat.{ℕ, _*_}
 use borrow.Author.Needs.{needs}
+use denote.Ref.{now}
+use Rattle.bits.specs.Bytes.{wordBytes}
+use Rattle.netlist.specs.Layout.{designOf}
+use Rattle.clock.specs.Call.{wordsAnswer}
+use Rattle.testport.proofs.BufferLaws.{words-read, words-length, values-left, next-left, values-length, next-length}
 use Rattle.testport.proofs.run_words.Statement.{statement}
 use Rattle.testport.proofs.run_words.Tie as tie
-use Rattle.testport.proofs.run_words.Reads as reads
-use Rattle.testport.proofs.run_words.Lts as lts
-use Rattle.bits.proofs.bytes.read_words.Reads as read-words-reads
-use Rattle.bits.proofs.bytes.write_words.Reads as write-words-reads
-use Rattle.clock.proofs.cycle.run.Reads as run-reads
 
--- src/lib.rt:58:5
 read-words-requires : tie.Need-read-words-requires
 read-words-requires c κs = c .before .before .before .before .before .before .before .pre .board-size ∙ ap (λ (n : ℕ). 8 * n) (sym (c .before .before .before .before .before .before .before .pre .words-size))
 
--- src/lib.rt:59:11
 run-requires : tie.Need-run-requires
 run-requires c κs = let file = now (c .before .before .before .before .before .before .before .before .before .before .before .before .args .file) in
     let board = now (c .before .before .before .before .before .before .before .before .before .before .before .before .args .board) in
     (c .before .before .before .before .before .before .before .before .before .before .before .before .pre .accepted, words-length file board (words-read file board (c .before .before .before .before .before .before .before .before .before .before .before .before .pre .words-size) (c .before .before .before .before .read-words .ensures)), c .before .before .before .before .before .before .before .before .before .before .before .before .pre .states-size)
 
--- src/lib.rt:61:25
 enum-told : tie.Need-enum-told
 enum-told c = c .match .keys1
 
--- src/lib.rt:61:13
 write-words-requires : tie.Need-write-words-requires
 write-words-requires c κs = let file = now (c .before .before .before .before .before .before .before .before .before .before .before .before .before .before .before .before .before .before .before .before .before .args .file) in
     let board = now (c .before .before .before .before .before .before .before .before .before .before .before .before .before .before .before .before .before .before .before .before .before .args .board) in
     let read = words-read file board (c .before .before .before .before .before .before .before .before .before .before .before .before .before .before .before .before .before .before .before .before .before .pre .words-size) (c .before .before .before .before .before .before .before .before .before .before .before .before .before .read-words .ensures) in
     c .before .before .before .before .before .before .before .before .before .before .before .before .before .before .before .before .before .before .before .before .before .pre .board-size ∙ ap (λ (n : ℕ). 8 * n) (sym (values-length file board (values-left file board read (c .before .before .enum-told .given .1) (c .before .before .before .before .before .before .before .before .run .ensures .1 .0))))
 
--- src/lib.rt:62:13
 write-words-requires-2 : tie.Need-write-words-requires-2
 write-words-requires-2 c κs = let file = now (c .before .before .before .before .before .before .before .before .before .before .before .before .before .before .before .before .before .before .before .before .before .before .before .before .before .before .args .file) in
     let board = now (c .before .before .before .before .before .before .before .before .before .before .before .before .before .before .before .before .before .before .before .before .before .before .before .before .before .before .args .board) in
     let read = words-read file board (c .before .before .before .before .before .before .before .before .before .before .before .before .before .before .before .before .before .before .before .before .before .before .before .before .before .before .pre .words-size) (c .before .before .before .before .before .before .before .before .before .before .before .before .before .before .before .before .before .before .read-words .ensures) in
     c .before .before .before .before .before .before .before .before .before .before .before .before .before .before .before .before .before .before .before .before .before .before .before .before .before .before .pre .next-size ∙ ap (λ (n : ℕ). 8 * n) (sym (next-length file board (next-left file board read (c .before .before .before .before .before .before .before .enum-told .given .1) (now (c .before .before .before .before .before .before .before .before .before .before .before .before .before .before .before .before .before .before .before .before .before .before .before .before .before .before .args .states)) (c .before .before .before .before .before .before .before .before .before .before .before .before .before .run .ensures .1 .1))))
 
--- src/lib.rt:65:26
 enum-known-r : tie.Need-enum-known-r
 enum-known-r c = c .match .keys2
 
--- src/lib.rt:46:1
 same-length : tie.Need-same-length
 same-length c = search needs
 
--- src/lib.rt:46:1
 same-length-2 : tie.Need-same-length-2
 same-length-2 c = search needs
 
--- src/lib.rt:46:1
 same-length-3 : tie.Need-same-length-3
 same-length-3 c = search needs
 
--- src/lib.rt:46:1
 same-length-4 : tie.Need-same-length-4
 same-length-4 c = search needs
 
--- src/lib.rt:46:1
 returns : tie.Need-returns
 returns c = let file = now (c .before .before .before .before .before .before .before .before .before .before .before .before .before .before .before .before .before .before .before .before .before .before .before .before .before .before .before .before .before .args .file) in
     let board = now (c .before .before .before .before .before .before .before .before .before .before .before .before .before .before .before .before .before .before .before .before .before .before .before .before .before .before .before .before .before .args .board) in
@@ -75,19 +61,15 @@ returns c = let file = now (c .before .before .before .before .before .before .b
       ),
     )
 
--- src/lib.rt:46:1
 same-length-5 : tie.Need-same-length-5
 same-length-5 c = search needs
 
--- src/lib.rt:46:1
 same-length-6 : tie.Need-same-length-6
 same-length-6 c = search needs
 
--- src/lib.rt:46:1
 same-length-7 : tie.Need-same-length-7
 same-length-7 c = search needs
 
--- src/lib.rt:46:1
 returns-2 : tie.Need-returns-2
 returns-2 c = let file = now (c .before .before .before .before .before .before .before .before .before .before .before .before .before .before .before .before .before .before .before .before .args .file) in
     let read = words-read file (now (c .before .before .before .before .before .before .before .before .before .before .before .before .before .before .before .before .before .before .before .before .args .board)) (c .before .before .before .before .before .before .before .before .before .before .before .before .before .before .before .before .before .before .before .before .pre .words-size) (c .before .before .before .before .before .before .before .before .before .before .before .before .read-words .ensures) in

@@ -1,34 +1,25 @@
-use Rattle.care.specs.Least.{seedOf}
-use Rattle.rules.proofs.Acceptance.{holds-record}
-use Rattle.rules.specs.Check.{roleAt}
+-- `care::masks::seed_at` meets its contract: the seed goes by the record's role and width.
+-- Assumes nothing.
+use mathlib.Core.Path.{sym, ap, subst, _∙_}
+use Prim.Native.Nat.{ℕ, _≤_}
+use denote.Ref.{now}
 use Rattle.netlist.specs.Layout.{designOf, recordAt}
 use Rattle.netlist.specs.declared.record.Uses.{Uses}
-use denote.Ref.{now}
-use Prim.Native.Nat.{ℕ, _≤_}
-use mathlib.Core.Path.{sym, ap, subst, _∙_}
-use borrow.Author.Needs.{needs}
+use Rattle.rules.proofs.Acceptance.{holds-record}
+use Rattle.care.specs.Least.{seedOf}
 use Rattle.care.proofs.masks.seed_at.Statement.{statement}
 use Rattle.care.proofs.masks.seed_at.Tie as tie
-use Rattle.care.proofs.masks.seed_at.Reads as reads
-use Rattle.care.proofs.masks.seed_at.Lts as lts
-use Rattle.care.proofs.masks.seed_of.Reads as seed-of-reads
-use Rattle.netlist.proofs.layout.uses_at.Reads as uses-at-reads
-use Rattle.netlist.proofs.layout.width_at.Reads as width-at-reads
 
--- src/masks.rt:41:9
 uses-at-requires : tie.Need-uses-at-requires
 uses-at-requires c κs = holds-record (now (c .before .args .file)) (c .before .pre .0) (c .before .args .i) (c .before .pre .1)
 
--- src/masks.rt:43:19
 width-at-requires : tie.Need-width-at-requires
 width-at-requires c κs = holds-record (now (c .before .before .args .file)) (c .before .before .pre .0) (c .before .before .args .i) (c .before .before .pre .1)
 
--- src/masks.rt:43:5
 seed-of-requires : tie.Need-seed-of-requires
 unfolding designOf recordAt
 seed-of-requires c κs = subst (λ (w : ℕ). w ≤ 64) (sym (c .width-at .ensures)) (c .before .before .before .pre .0 .sound .each (c .before .before .before .args .i) (c .before .before .before .pre .1) .narrow)
 
--- src/masks.rt:37:1
 returns : tie.Need-returns
 unfolding designOf recordAt
 returns c = c .seed-of .ensures ∙ ap (seedOf (c .before .before .uses-at .result .role)) (c .before .width-at .ensures)

@@ -1,14 +1,12 @@
+-- `clock::cycle::both_have` meets its contract: the two tests of the definition, in its order.
+-- Assumes nothing.
 use borrow.Author.Tests.{eq-eqb, ne-eqb}
 use Rattle.clock.proofs.cycle.both_have.Statement.{statement}
 use Rattle.clock.proofs.cycle.both_have.Tie as tie
-use Rattle.clock.proofs.cycle.both_have.Reads as reads
-use Rattle.clock.proofs.cycle.both_have.Lts as lts
 
--- src/cycle.rt:75:1
 returns : tie.Need-returns
 returns c = rw (eq-eqb (c .before .args .board) (c .before .args .n) (c .if1 .taken))
 
--- src/cycle.rt:75:1
 returns-2 : tie.Need-returns-2
 returns-2 c = rw (ne-eqb (c .before .args .board) (c .before .args .n) (c .if1 .left))
 

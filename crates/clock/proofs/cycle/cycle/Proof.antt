@@ -1,45 +1,35 @@
-use borrow.Author.Tests.{not-true, not-false}
-use Rattle.clock.proofs.CallLaws.{answer-refused, answer-bad-list, answer-fit, cycle-ends, both-fit}
-use Rattle.clock.specs.Call.{wordsAnswer}
-use Rattle.rules.specs.Sound.{Acceptance}
-use Rattle.rules.proofs.Acceptance.{accepted}
-use Rattle.netlist.specs.Layout.{designOf}
+-- `clock::cycle::cycle` meets its contract: the file is refused, a list is refused, or the cycle is run.
+-- Assumes nothing.
+use mathlib.Core.Path.{sym, subst, _∙_}
+use mathlib.Core.Bool.{_&&_}
 use lib.ListN.{length}
 use lib.Dec.{eqb}
-use denote.Ref.{now}
-use native.Mathlib.Omega.{arith}
-use Prim.Native.Nat.{ℕ}
-use mathlib.Core.Path.{sym, ap, subst, _∙_}
-use mathlib.Core.Bool.{_&&_}
+use borrow.Author.Tests.{not-true, not-false}
 use borrow.Author.Needs.{needs}
+use denote.Ref.{now}
+use Rattle.netlist.specs.Layout.{designOf}
+use Rattle.rules.specs.Sound.{Acceptance}
+use Rattle.rules.proofs.Acceptance.{accepted}
+use Rattle.clock.specs.Call.{wordsAnswer}
+use Rattle.clock.proofs.CallLaws.{answer-refused, answer-bad-list, answer-fit, cycle-ends, both-fit}
 use Rattle.clock.proofs.cycle.cycle.Statement.{statement}
 use Rattle.clock.proofs.cycle.cycle.Tie as tie
-use Rattle.clock.proofs.cycle.cycle.Reads as reads
-use Rattle.clock.proofs.cycle.cycle.Lts as lts
-use Rattle.clock.proofs.cycle.both_have.Reads as both-have-reads
-use Rattle.clock.proofs.cycle.run.Reads as run-reads
-use Rattle.rules.proofs.check.check.Reads as check-reads
 
--- src/cycle.rt:87:11
 check-requires : tie.Need-check-requires
 check-requires c κs = tt
 
--- src/cycle.rt:88:27
 enum-known-n : tie.Need-enum-known-n
 enum-known-n c = c .match .keys1
 
--- src/cycle.rt:89:17
 both-have-requires : tie.Need-both-have-requires
 both-have-requires c κs = tt
 
--- src/cycle.rt:90:17
 returns : tie.Need-returns
 returns c = let args = c .before .before .before .before .before .before .before .before .before .args in
     let board = now (args .board) in
     let next = now (args .next) in
     cycle-ends (now (args .file)) board next (answer-bad-list (λ n. eqb (length board) n && eqb (length next) n) (wordsAnswer (designOf (now (args .file))) board) (sym (c .before .before .before .before .before .check .ensures) ∙ c .before .before .before .n .given .1) (sym (c .before .both-have .ensures) ∙ not-true _ (c .if1 .taken)))
 
--- src/cycle.rt:92:13
 run-requires : tie.Need-run-requires
 run-requires c κs = let args = c .before .before .before .before .before .before .before .before .before .before .before .args in
     let file = now (args .file) in
@@ -48,19 +38,15 @@ run-requires c κs = let args = c .before .before .before .before .before .befor
     let e = a .count in
     (subst (Acceptance file) (a .count) a, b .0 ∙ e, b .1 ∙ e)
 
--- src/cycle.rt:94:26
 enum-known-r : tie.Need-enum-known-r
 enum-known-r c = c .match .keys2
 
--- src/cycle.rt:82:1
 same-length : tie.Need-same-length
 same-length c = search needs
 
--- src/cycle.rt:82:1
 same-length-2 : tie.Need-same-length-2
 same-length-2 c = search needs
 
--- src/cycle.rt:82:1
 returns-2 : tie.Need-returns-2
 returns-2 c = let args = c .before .before .before .before .before .before .before .before .before .before .before .before .before .before .before .before .args in
     let board = now (args .board) in
@@ -68,7 +54,6 @@ returns-2 c = let args = c .before .before .before .before .before .before .befo
     let b = cycle-ends (now (args .file)) board next (answer-fit (λ n. eqb (length board) n && eqb (length next) n) (wordsAnswer (designOf (now (args .file))) board) (sym (c .before .before .before .before .before .before .before .before .before .before .before .before .check .ensures) ∙ c .before .before .before .before .before .before .before .before .before .before .n .given .1) (sym (c .before .before .before .before .before .before .before .before .both-have .ensures) ∙ not-false _ (c .before .before .before .before .before .before .before .if1 .left)) ∙ sym (c .before .before .before .before .run .ensures .0)) in
     (b .0, (c .before .before .before .before .run .ensures .1 .0 ∙ b .1 .0, c .before .before .before .before .run .ensures .1 .1 ∙ b .1 .1))
 
--- src/cycle.rt:82:1
 returns-3 : tie.Need-returns-3
 returns-3 c = let args = c .before .before .before .before .before .before .before .args in
     let board = now (args .board) in

@@ -1,56 +1,42 @@
-use Rattle.clock.specs.Call.{leaves}
-use Rattle.clock.specs.Values.{unchanged, valuesOf, nextOf}
-use Rattle.netlist.specs.Layout.{designOf, countOf}
-use denote.Ref.{now}
-use Rattle.clock.proofs.ValueLaws.{length-values}
-use lib.ListN.{length}
+-- `clock::cycle::run` meets its contract: a word is refused and nothing is written, or the values are worked out and then loaded.
+-- Assumes nothing.
 use mathlib.Core.Path.{refl, sym, ap, _∙_}
+use lib.ListN.{length}
 use borrow.Author.Needs.{needs}
+use denote.Ref.{now}
+use Rattle.netlist.specs.Layout.{designOf}
+use Rattle.clock.specs.Values.{unchanged, nextOf}
+use Rattle.clock.proofs.ValueLaws.{length-values}
 use Rattle.clock.proofs.cycle.run.Statement.{statement}
 use Rattle.clock.proofs.cycle.run.Tie as tie
-use Rattle.clock.proofs.cycle.run.Reads as reads
-use Rattle.clock.proofs.cycle.run.Lts as lts
-use Rattle.clock.proofs.cycle.check_words.Reads as check-words-reads
-use Rattle.clock.proofs.states.load.Reads as load-reads
-use Rattle.clock.proofs.values.work_out.Reads as work-out-reads
 
--- src/cycle.rt:47:11
 check-words-requires : tie.Need-check-words-requires
 check-words-requires c κs = (c .before .before .before .before .pre .0, c .before .before .before .before .pre .1)
 
--- src/cycle.rt:49:28
 enum-told : tie.Need-enum-told
 enum-told c = c .match .keys1
 
--- src/cycle.rt:49:13
 work-out-requires : tie.Need-work-out-requires
 work-out-requires c κs = (c .before .before .before .before .before .before .before .before .pre .0, c .before .before .before .before .before .before .before .before .pre .1)
 
--- src/cycle.rt:50:13
 load-requires : tie.Need-load-requires
 load-requires c κs = (c .before .before .before .before .before .before .before .before .before .before .before .before .before .pre .0, ap length (c .before .before .before .before .work-out .ensures) ∙ length-values (designOf (now (c .before .before .before .before .before .before .before .before .before .before .before .before .before .args .file))) unchanged (now (c .before .before .before .before .before .before .before .before .before .before .before .before .before .args .board)) ∙ c .before .before .before .before .before .before .before .before .before .before .before .before .before .pre .1, c .before .before .before .before .before .before .before .before .before .before .before .before .before .pre .2)
 
--- src/cycle.rt:53:26
 enum-known-r : tie.Need-enum-known-r
 enum-known-r c = c .match .keys2
 
--- src/cycle.rt:41:1
 same-length : tie.Need-same-length
 same-length c = search needs
 
--- src/cycle.rt:41:1
 same-length-2 : tie.Need-same-length-2
 same-length-2 c = search needs
 
--- src/cycle.rt:41:1
 returns : tie.Need-returns
 returns c = (sym (c .before .before .before .before .before .before .before .before .before .enum-told .given .1) ∙ c .before .before .before .before .before .before .before .before .before .before .before .check-words .ensures, (c .before .before .before .before .before .before .before .work-out .ensures, c .before .before .load .ensures ∙ ap (nextOf (designOf (now (c .before .before .before .before .before .before .before .before .before .before .before .before .before .before .before .before .args .file)))) (c .before .before .before .before .before .before .before .work-out .ensures)))
 
--- src/cycle.rt:41:1
 same-length-3 : tie.Need-same-length-3
 same-length-3 c = search needs
 
--- src/cycle.rt:41:1
 returns-2 : tie.Need-returns-2
 returns-2 c = (sym (c .before .r .given .1) ∙ c .before .before .before .check-words .ensures, (refl, refl))
 

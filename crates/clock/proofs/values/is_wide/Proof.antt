@@ -1,44 +1,33 @@
-use Rattle.rules.specs.Check.{roleAt}
+-- `clock::values::is_wide` meets its contract: the record's role, word and width are those of the design and of the board.
+-- Assumes nothing.
+use mathlib.Core.Path.{ap, _∙_}
+use native.Mathlib.Omega.{arith}
+use denote.Ref.{now}
 use Rattle.bits.specs.Lists.{wordAt}
-use Rattle.clock.specs.Call.{wordIsWide}
-use Rattle.rules.proofs.Acceptance.{holds-record}
 use Rattle.netlist.specs.Layout.{designOf, recordAt}
 use Rattle.netlist.specs.declared.record.Uses.{Uses}
-use denote.Ref.{now}
-use native.Mathlib.Omega.{arith}
-use Prim.Native.Nat.{ℕ}
-use mathlib.Core.Path.{ap, _∙_}
-use borrow.Author.Needs.{needs}
+use Rattle.rules.specs.Check.{roleAt}
+use Rattle.rules.proofs.Acceptance.{holds-record}
+use Rattle.clock.specs.Call.{wordIsWide}
 use Rattle.clock.proofs.values.is_wide.Statement.{statement}
 use Rattle.clock.proofs.values.is_wide.Tie as tie
-use Rattle.clock.proofs.values.is_wide.Reads as reads
-use Rattle.clock.proofs.values.is_wide.Lts as lts
-use Rattle.clock.proofs.values.word_is_wide.Reads as word-is-wide-reads
-use Rattle.netlist.proofs.layout.uses_at.Reads as uses-at-reads
-use Rattle.netlist.proofs.layout.width_at.Reads as width-at-reads
 
--- src/values.rt:37:9
 uses-at-requires : tie.Need-uses-at-requires
 uses-at-requires c κs = holds-record (now (c .before .before .args .file)) (c .before .before .pre .0) (c .before .before .args .i) (c .before .before .pre .1)
 
--- src/values.rt:39:24
 mul-word-is-wide : tie.Need-mul-word-is-wide
 unfolding designOf
 mul-word-is-wide c = let l = c .before .before .before .pre .1 in let f = c .before .before .before .pre .0 .sound .few in omega arith
 
--- src/values.rt:39:24
 shared-slice-read-word-is-wide : tie.Need-shared-slice-read-word-is-wide
 shared-slice-read-word-is-wide c = let l = c .before .before .before .before .pre .1 in let e = c .before .before .before .before .pre .2 in omega arith
 
--- src/values.rt:39:34
 width-at-requires : tie.Need-width-at-requires
 width-at-requires c κs = holds-record (now (c .before .before .before .before .args .file)) (c .before .before .before .before .pre .0) (c .before .before .before .before .args .i) (c .before .before .before .before .pre .1)
 
--- src/values.rt:39:5
 word-is-wide-requires : tie.Need-word-is-wide-requires
 word-is-wide-requires c κs = tt
 
--- src/values.rt:33:1
 returns : tie.Need-returns
 unfolding designOf recordAt
 returns c = let word = wordAt (now (c .before .before .before .before .before .before .args .board)) (c .before .before .before .before .before .before .args .i) in

@@ -1,50 +1,38 @@
-use Rattle.netlist.proofs.Tests.{short-test}
-use mathlib.Core.Path.{ap, _∙_}
+-- `clock::values::word_is_wide` meets its contract: a word is too wide if what lies above its width is not 0.
+-- Assumes nothing.
+use mathlib.Core.Path.{ap}
 use mathlib.Core.Bool.{not}
-use borrow.Author.Needs.{needs}
+use Rattle.netlist.proofs.Tests.{short-test}
 use Rattle.clock.proofs.values.word_is_wide.Statement.{statement}
 use Rattle.clock.proofs.values.word_is_wide.Tie as tie
-use Rattle.clock.proofs.values.word_is_wide.Reads as reads
-use Rattle.clock.proofs.values.word_is_wide.Lts as lts
-use Rattle.bits.proofs.arith.shr.Reads as shr-reads
 
--- src/values.rt:25:24
 enum-told : tie.Need-enum-told
 enum-told c = c .match .keys1
 
--- src/values.rt:25:24
 shr-requires : tie.Need-shr-requires
 shr-requires c κs = tt
 
--- src/values.rt:26:42
 enum-told-2 : tie.Need-enum-told-2
 enum-told-2 c = c .match .keys2
 
--- src/values.rt:26:42
 shr-requires-2 : tie.Need-shr-requires-2
 shr-requires-2 c κs = tt
 
--- src/values.rt:27:25
 enum-told-3 : tie.Need-enum-told-3
 enum-told-3 c = c .match .keys3
 
--- src/values.rt:28:23
 enum-told-4 : tie.Need-enum-told-4
 enum-told-4 c = c .match .keys4
 
--- src/values.rt:21:1
 returns : tie.Need-returns
 returns c = rw (c .before .enum-told .given .1) (ap not (short-test (c .before .before .before .args .word) (c .before .before .before .args .w) (c .shr .result) (c .shr .ensures)))
 
--- src/values.rt:21:1
 returns-2 : tie.Need-returns-2
 returns-2 c = rw (c .before .enum-told2 .given .1) (ap not (short-test (c .before .before .before .args .word) (c .before .before .before .args .w) (c .shr2 .result) (c .shr2 .ensures)))
 
--- src/values.rt:21:1
 returns-3 : tie.Need-returns-3
 returns-3 c = rw (c .enum-told3 .given .1)
 
--- src/values.rt:21:1
 returns-4 : tie.Need-returns-4
 returns-4 c = rw (c .enum-told4 .given .1)
 

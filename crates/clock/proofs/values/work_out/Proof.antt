@@ -1,17 +1,15 @@
-use Rattle.clock.proofs.ValueLaws.{values-next}
-use Rattle.clock.specs.Values.{unchanged, valuesTo, valuesOf}
-use Rattle.netlist.specs.Layout.{designOf, countOf}
-use denote.Ref.{now}
-use lib.ListN.{length, length-set}
-use native.Mathlib.Omega.{arith}
-use native.Mathlib.Numerals.{add-one}
-use Prim.Native.Nat.{ℕ, _-_, _≤_}
+-- `clock::values::work_out` meets its contract: after i turns the records below i are worked out.
+-- Assumes nothing.
 use mathlib.Core.Path.{_≡_, refl, sym, ap, _∙_}
+use Prim.Native.Nat.{_-_, _≤_}
+use native.Mathlib.Omega.{arith}
+use lib.ListN.{length, length-set}
+use denote.Ref.{now}
+use Rattle.netlist.specs.Layout.{designOf, countOf}
+use Rattle.clock.specs.Values.{unchanged, valuesTo, valuesOf}
+use Rattle.clock.proofs.ValueLaws.{values-next}
 use Rattle.clock.proofs.values.work_out.Statement.{statement}
 use Rattle.clock.proofs.values.work_out.Tie as tie
-use Rattle.clock.proofs.values.work_out.Reads as reads
-use Rattle.clock.proofs.values.work_out.Lts as lts
-use Rattle.clock.proofs.values.value_at.Reads as value-at-reads
 
 abbrev Inv-loop : tie.InvT-loop
 Inv-loop file board₀ i₀ board i =
@@ -21,34 +19,27 @@ abbrev μ-loop : tie.MeasureT-loop
 μ-loop file board₀ i₀ board i =
     countOf file - i
 
--- src/values.rt:56:5
 loop-holds : tie.Need-loop-holds Inv-loop μ-loop
 unfolding valuesTo
 loop-holds c = (omega arith, c .before .before .pre .1, refl)
 
--- src/values.rt:57:20
 value-at-requires : tie.Need-value-at-requires Inv-loop μ-loop
 value-at-requires c κs = (c .before .before .before .before .before .pre .0, let e = c .before .before .loop .inv .1 in let t = c .before .loop-test .taken in omega arith, c .before .before .loop .inv .1)
 
--- src/values.rt:57:9
 mul-board : tie.Need-mul-board Inv-loop μ-loop
 unfolding designOf
 mul-board c = let f = c .before .before .before .before .before .before .pre .0 .sound .few in let e = c .before .before .before .loop .inv .1 in let t = c .before .before .loop-test .taken in omega arith
 
--- src/values.rt:57:9
 slice-write-board : tie.Need-slice-write-board Inv-loop μ-loop
 slice-write-board c = c .before .before .loop-test .taken
 
--- src/values.rt:58:9
 add-i : tie.Need-add-i Inv-loop μ-loop
 unfolding designOf
 add-i c = let f = c .before .before .before .before .before .before .pre .0 .sound .few in let e = c .before .before .before .loop .inv .0 in omega arith
 
--- src/values.rt:56:5
 loop-less : tie.Need-loop-less Inv-loop μ-loop
 loop-less c = let e = c .before .before .before .loop .inv .1 in let t = c .before .before .loop-test .taken in omega arith
 
--- src/values.rt:56:5
 loop-again : tie.Need-loop-again Inv-loop μ-loop
 loop-again c = let loop = c .before .before .before .loop in
     let e = loop .inv .1 in
@@ -58,11 +49,9 @@ loop-again c = let loop = c .before .before .before .loop in
       values-next (designOf (now (c .before .before .before .before .before .before .args .file))) (now (c .before .before .before .before .before .before .args .board)) (loop .board) (loop .i) (c .value-at .result) (loop .inv .2) (c .value-at .ensures),
     )
 
--- src/values.rt:51:1
 same-length : tie.Need-same-length Inv-loop μ-loop
 same-length c = c .before .loop .inv .1 ∙ sym (c .before .before .before .before .pre .1)
 
--- src/values.rt:51:1
 returns : tie.Need-returns Inv-loop μ-loop
 unfolding valuesOf designOf
 returns c = let loop = c .before .loop in

@@ -1,14 +1,12 @@
+-- `signal::result::choose` meets its contract: the test for 1 is the definition's.
+-- Assumes nothing.
 use borrow.Author.Tests.{eq-eqb, ne-eqb}
 use Rattle.signal.proofs.result.choose.Statement.{statement}
 use Rattle.signal.proofs.result.choose.Tie as tie
-use Rattle.signal.proofs.result.choose.Reads as reads
-use Rattle.signal.proofs.result.choose.Lts as lts
 
--- src/result.rt:39:1
 returns : tie.Need-returns
 returns c = let args = c .before .args in rw (eq-eqb (args .x) 1 (c .if1 .taken))
 
--- src/result.rt:39:1
 returns-2 : tie.Need-returns-2
 returns-2 c = let args = c .before .args in rw (ne-eqb (args .x) 1 (c .if1 .left))
 

@@ -1,24 +1,19 @@
-use Rattle.bits.specs.Words.{sumAt}
-use Prim.Native.Nat.{ℕ}
+-- `signal::result::concat` meets its contract: a sum at the record's width needs the moved word modulo 2^64 only.
+-- Assumes nothing.
 use mathlib.Core.Path.{ap, _∙_}
-use Rattle.bits.proofs.Modulo.{sum-cut}
+use Prim.Native.Nat.{ℕ}
 use borrow.Author.Needs.{needs}
+use Rattle.bits.specs.Words.{sumAt}
+use Rattle.bits.proofs.Modulo.{sum-cut}
 use Rattle.signal.proofs.result.concat.Statement.{statement}
 use Rattle.signal.proofs.result.concat.Tie as tie
-use Rattle.signal.proofs.result.concat.Reads as reads
-use Rattle.signal.proofs.result.concat.Lts as lts
-use Rattle.bits.proofs.arith.add.Reads as add-reads
-use Rattle.bits.proofs.arith.shl.Reads as shl-reads
 
--- src/result.rt:28:9
 shl-requires : tie.Need-shl-requires
 shl-requires c κs = search needs
 
--- src/result.rt:28:5
 add-requires : tie.Need-add-requires
 add-requires c κs = search needs
 
--- src/result.rt:24:1
 returns : tie.Need-returns
 returns c = let args = c .before .before .args in
     c .add .ensures ∙ ap (λ (x : ℕ). sumAt (args .w) x (args .y)) (c .before .shl .ensures) ∙ sum-cut _ (args .y) (c .before .before .pre)

@@ -1,14 +1,12 @@
+-- `signal::result::equal` meets its contract: the test is the definition's.
+-- Assumes nothing.
 use borrow.Author.Tests.{eq-eqb, ne-eqb}
 use Rattle.signal.proofs.result.equal.Statement.{statement}
 use Rattle.signal.proofs.result.equal.Tie as tie
-use Rattle.signal.proofs.result.equal.Reads as reads
-use Rattle.signal.proofs.result.equal.Lts as lts
 
--- src/result.rt:45:1
 returns : tie.Need-returns
 returns c = let args = c .before .args in rw (eq-eqb (args .x) (args .y) (c .if1 .taken))
 
--- src/result.rt:45:1
 returns-2 : tie.Need-returns-2
 returns-2 c = let args = c .before .args in rw (ne-eqb (args .x) (args .y) (c .if1 .left))
 

@@ -1,171 +1,123 @@
-use borrow.Author.Needs.{needs}
+-- `signal::result::result_of` meets its contract: each kind has its line in the definition.
+-- Assumes nothing.
+use native.Mathlib.Omega.{arith}
 use Rattle.signal.proofs.result.result_of.Statement.{statement}
 use Rattle.signal.proofs.result.result_of.Tie as tie
-use Rattle.signal.proofs.result.result_of.Reads as reads
-use Rattle.signal.proofs.result.result_of.Lts as lts
-use Rattle.bits.proofs.arith.add.Reads as add-reads
-use Rattle.bits.proofs.arith.shr.Reads as shr-reads
-use Rattle.bits.proofs.arith.sub.Reads as sub-reads
-use Rattle.bits.proofs.mask.cut_to.Reads as cut-to-reads
-use Rattle.signal.proofs.result.below.Reads as below-reads
-use Rattle.signal.proofs.result.choose.Reads as choose-reads
-use Rattle.signal.proofs.result.concat.Reads as concat-reads
-use Rattle.signal.proofs.result.equal.Reads as equal-reads
-use Rattle.signal.proofs.result.product.Reads as product-reads
 
--- src/result.rt:63:24
 enum-told : tie.Need-enum-told
 enum-told c = c .match .keys1
 
--- src/result.rt:64:26
 enum-known-kind : tie.Need-enum-known-kind
 enum-known-kind c = c .match .keys2
 
--- src/result.rt:65:42
 enum-told-2 : tie.Need-enum-told-2
 enum-told-2 c = c .match .keys3
 
--- src/result.rt:66:34
 enum-told-3 : tie.Need-enum-told-3
 enum-told-3 c = c .match .keys4
 
--- src/result.rt:67:31
 enum-known-kind-2 : tie.Need-enum-known-kind-2
 enum-known-kind-2 c = c .match .keys5
 
--- src/result.rt:67:45
 shr-requires : tie.Need-shr-requires
 shr-requires c κs = tt
 
--- src/result.rt:67:38
 cut-to-requires : tie.Need-cut-to-requires
 cut-to-requires c κs = tt
 
--- src/result.rt:68:40
 enum-told-4 : tie.Need-enum-told-4
 enum-told-4 c = c .match .keys6
 
--- src/result.rt:68:40
 concat-requires : tie.Need-concat-requires
-concat-requires c κs = c .before .before .pre
+concat-requires c κs = let p = c .before .before .pre in omega arith
 
--- src/result.rt:69:37
 enum-told-5 : tie.Need-enum-told-5
 enum-told-5 c = c .match .keys7
 
--- src/result.rt:70:36
 enum-told-6 : tie.Need-enum-told-6
 enum-told-6 c = c .match .keys8
 
--- src/result.rt:71:37
 enum-told-7 : tie.Need-enum-told-7
 enum-told-7 c = c .match .keys9
 
--- src/result.rt:72:43
 enum-told-8 : tie.Need-enum-told-8
 enum-told-8 c = c .match .keys10
 
--- src/result.rt:72:43
 choose-requires : tie.Need-choose-requires
 choose-requires c κs = tt
 
--- src/result.rt:73:37
 enum-told-9 : tie.Need-enum-told-9
 enum-told-9 c = c .match .keys11
 
--- src/result.rt:73:37
 add-requires : tie.Need-add-requires
-add-requires c κs = c .before .before .pre
+add-requires c κs = let p = c .before .before .pre in omega arith
 
--- src/result.rt:74:37
 enum-told-10 : tie.Need-enum-told-10
 enum-told-10 c = c .match .keys12
 
--- src/result.rt:74:37
 sub-requires : tie.Need-sub-requires
-sub-requires c κs = c .before .before .pre
+sub-requires c κs = let p = c .before .before .pre in omega arith
 
--- src/result.rt:75:37
 enum-told-11 : tie.Need-enum-told-11
 enum-told-11 c = c .match .keys13
 
--- src/result.rt:75:37
 product-requires : tie.Need-product-requires
-product-requires c κs = c .before .before .pre
+product-requires c κs = let p = c .before .before .pre in omega arith
 
--- src/result.rt:76:39
 enum-told-12 : tie.Need-enum-told-12
 enum-told-12 c = c .match .keys14
 
--- src/result.rt:76:39
 equal-requires : tie.Need-equal-requires
 equal-requires c κs = tt
 
--- src/result.rt:77:39
 enum-told-13 : tie.Need-enum-told-13
 enum-told-13 c = c .match .keys15
 
--- src/result.rt:77:39
 below-requires : tie.Need-below-requires
 below-requires c κs = tt
 
--- src/result.rt:58:1
 returns : tie.Need-returns
 returns c = rw (c .enum-told .given .1)
 
--- src/result.rt:58:1
 returns-2 : tie.Need-returns-2
 returns-2 c = rw (c .before .kind .given .1)
 
--- src/result.rt:58:1
 returns-3 : tie.Need-returns-3
 returns-3 c = rw (c .enum-told2 .given .1)
 
--- src/result.rt:58:1
 returns-4 : tie.Need-returns-4
 returns-4 c = rw (c .enum-told3 .given .1)
 
--- src/result.rt:58:1
 returns-5 : tie.Need-returns-5
 returns-5 c = rw (c .before .before .before .kind2 .given .1, ← c .before .shr .ensures) (c .cut-to .ensures)
 
--- src/result.rt:58:1
 returns-6 : tie.Need-returns-6
 returns-6 c = rw (c .before .enum-told4 .given .1) (c .concat .ensures)
 
--- src/result.rt:58:1
 returns-7 : tie.Need-returns-7
 returns-7 c = rw (c .enum-told5 .given .1)
 
--- src/result.rt:58:1
 returns-8 : tie.Need-returns-8
 returns-8 c = rw (c .enum-told6 .given .1)
 
--- src/result.rt:58:1
 returns-9 : tie.Need-returns-9
 returns-9 c = rw (c .enum-told7 .given .1)
 
--- src/result.rt:58:1
 returns-10 : tie.Need-returns-10
 returns-10 c = rw (c .before .enum-told8 .given .1) (c .choose .ensures)
 
--- src/result.rt:58:1
 returns-11 : tie.Need-returns-11
 returns-11 c = rw (c .before .enum-told9 .given .1) (c .add .ensures)
 
--- src/result.rt:58:1
 returns-12 : tie.Need-returns-12
 returns-12 c = rw (c .before .enum-told10 .given .1) (c .sub .ensures)
 
--- src/result.rt:58:1
 returns-13 : tie.Need-returns-13
 returns-13 c = rw (c .before .enum-told11 .given .1) (c .product .ensures)
 
--- src/result.rt:58:1
 returns-14 : tie.Need-returns-14
 returns-14 c = rw (c .before .enum-told12 .given .1) (c .equal .ensures)
 
--- src/result.rt:58:1
 returns-15 : tie.Need-returns-15
 returns-15 c = rw (c .before .enum-told13 .given .1) (c .below .ensures)
 

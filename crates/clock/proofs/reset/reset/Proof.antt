@@ -1,18 +1,17 @@
-use Rattle.clock.specs.Values.{startWord, startOf}
-use Rattle.rules.proofs.Acceptance.{holds-record}
-use Rattle.rules.specs.Check.{roleAt}
-use Rattle.netlist.specs.Layout.{designOf, countOf}
-use Rattle.bits.proofs.ListLaws.{Filled, filled-none, filled-next, filled-all}
-use denote.Ref.{now}
-use lib.ListN.{length, length-set}
-use native.Mathlib.Omega.{arith}
-use Prim.Native.Nat.{ℕ, _-_, _≤_}
+-- `clock::reset::reset` meets its contract: after i turns the first i words are those after a start.
+-- Assumes nothing.
 use mathlib.Core.Path.{_≡_, sym, subst, _∙_}
-use Rattle.clock.proofs.states.reset.Statement.{statement}
-use Rattle.clock.proofs.states.reset.Tie as tie
-use Rattle.clock.proofs.states.reset.Reads as reads
-use Rattle.clock.proofs.states.reset.Lts as lts
-use Rattle.clock.proofs.states.start_word.Reads as start-word-reads
+use Prim.Native.Nat.{ℕ, _-_, _≤_}
+use native.Mathlib.Omega.{arith}
+use lib.ListN.{length, length-set}
+use denote.Ref.{now}
+use Rattle.bits.proofs.ListLaws.{Filled, filled-none, filled-next, filled-all}
+use Rattle.netlist.specs.Layout.{designOf, countOf}
+use Rattle.rules.specs.Check.{roleAt}
+use Rattle.rules.proofs.Acceptance.{holds-record}
+use Rattle.clock.specs.Values.{startWord, startOf}
+use Rattle.clock.proofs.reset.reset.Statement.{statement}
+use Rattle.clock.proofs.reset.reset.Tie as tie
 
 abbrev Inv-loop : tie.InvT-loop
 Inv-loop file list₀ i₀ list i =
@@ -22,33 +21,26 @@ abbrev μ-loop : tie.MeasureT-loop
 μ-loop file list₀ i₀ list i =
     countOf file - i
 
--- src/states.rt:49:5
 loop-holds : tie.Need-loop-holds Inv-loop μ-loop
 loop-holds c = (omega arith, c .before .before .pre .1, filled-none _ _)
 
--- src/states.rt:50:19
 start-word-requires : tie.Need-start-word-requires Inv-loop μ-loop
 start-word-requires c κs = holds-record (now (c .before .before .before .before .args .file)) (c .before .before .before .before .pre .0) (c .before .loop .i) (let e = c .before .loop .inv .1 in let t = c .loop-test .taken in omega arith)
 
--- src/states.rt:50:9
 mul-list : tie.Need-mul-list Inv-loop μ-loop
 unfolding designOf
 mul-list c = let f = c .before .before .before .before .before .pre .0 .sound .few in let e = c .before .before .loop .inv .1 in let t = c .before .loop-test .taken in omega arith
 
--- src/states.rt:50:9
 slice-write-list : tie.Need-slice-write-list Inv-loop μ-loop
 slice-write-list c = c .before .loop-test .taken
 
--- src/states.rt:51:9
 add-i : tie.Need-add-i Inv-loop μ-loop
 unfolding designOf
 add-i c = let f = c .before .before .before .before .before .pre .0 .sound .few in let e = c .before .before .loop .inv .0 in omega arith
 
--- src/states.rt:49:5
 loop-less : tie.Need-loop-less Inv-loop μ-loop
 loop-less c = let e = c .before .before .loop .inv .1 in let t = c .before .loop-test .taken in omega arith
 
--- src/states.rt:49:5
 loop-again : tie.Need-loop-again Inv-loop μ-loop
 loop-again c = let loop = c .before .before .loop in
     let e = loop .inv .1 in
@@ -58,11 +50,9 @@ loop-again c = let loop = c .before .before .loop in
       filled-next (λ j. startWord (roleAt (designOf (now (c .before .before .before .before .before .args .file))) j)) (loop .list) (loop .i) (c .start-word .result) (loop .inv .2) t (c .start-word .ensures),
     )
 
--- src/states.rt:44:1
 same-length : tie.Need-same-length Inv-loop μ-loop
 same-length c = c .before .loop .inv .1 ∙ sym (c .before .before .before .before .pre .1)
 
--- src/states.rt:44:1
 returns : tie.Need-returns Inv-loop μ-loop
 unfolding startOf designOf
 returns c = let loop = c .before .loop in

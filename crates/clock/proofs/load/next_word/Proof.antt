@@ -1,67 +1,53 @@
-use Rattle.clock.specs.Values.{nextWord}
-use Rattle.rules.proofs.SoundLaws.{register-loads}
-use Rattle.rules.proofs.Acceptance.{holds-record}
+-- `clock::load::next_word` meets its contract: each role has its line in the definition, and a register's a is a record of the file.
+-- Assumes nothing.
+use mathlib.Core.Path.{sym, ap, _∙_}
+use native.Mathlib.Omega.{arith}
+use denote.Ref.{now}
 use Rattle.netlist.specs.declared.record.Uses.{Uses}
 use Rattle.netlist.specs.Layout.{designOf}
-use denote.Ref.{now}
-use native.Mathlib.Omega.{arith}
-use Prim.Native.Nat.{ℕ}
-use mathlib.Core.Path.{sym, ap, _∙_}
-use borrow.Author.Needs.{needs}
-use Rattle.clock.proofs.states.next_word.Statement.{statement}
-use Rattle.clock.proofs.states.next_word.Tie as tie
-use Rattle.clock.proofs.states.next_word.Reads as reads
-use Rattle.clock.proofs.states.next_word.Lts as lts
-use Rattle.netlist.proofs.layout.uses_at.Reads as uses-at-reads
+use Rattle.rules.proofs.SoundLaws.{register-loads}
+use Rattle.rules.proofs.Acceptance.{holds-record}
+use Rattle.clock.specs.Values.{nextWord}
+use Rattle.clock.proofs.load.next_word.Statement.{statement}
+use Rattle.clock.proofs.load.next_word.Tie as tie
 
--- src/states.rt:33:9
 uses-at-requires : tie.Need-uses-at-requires
 uses-at-requires c κs = holds-record (now (c .before .before .args .file)) (c .before .before .pre .0) (c .before .before .args .i) (c .before .before .pre .1)
 
--- src/states.rt:36:24
 enum-told : tie.Need-enum-told
 enum-told c = c .match .keys1
 
--- src/states.rt:37:26
 enum-known-role : tie.Need-enum-known-role
 enum-known-role c = c .match .keys2
 
--- src/states.rt:37:39
 mul-result : tie.Need-mul-result
 unfolding designOf
 mul-result c = let f = c .before .before .before .before .before .before .pre .0 .sound .few in
     let l = register-loads (designOf (now (c .before .before .before .before .before .before .args .file))) (c .before .before .before .before .before .before .pre .0 .sound) (c .before .before .before .before .before .before .args .i) (c .before .before .before .before .before .before .pre .1) _ _ (ap (λ (u : Uses). u .role) (sym (c .before .before .before .uses-at .ensures)) ∙ c .before .role .given .1) .below in omega arith
 
--- src/states.rt:37:39
 shared-slice-read-result : tie.Need-shared-slice-read-result
 unfolding designOf
 shared-slice-read-result c = let e = c .before .before .before .before .before .before .before .pre .2 in
     let l = register-loads (designOf (now (c .before .before .before .before .before .before .before .args .file))) (c .before .before .before .before .before .before .before .pre .0 .sound) (c .before .before .before .before .before .before .before .args .i) (c .before .before .before .before .before .before .before .pre .1) _ _ (ap (λ (u : Uses). u .role) (sym (c .before .before .before .before .uses-at .ensures)) ∙ c .before .before .role .given .1) .below in omega arith
 
--- src/states.rt:38:25
 enum-told-2 : tie.Need-enum-told-2
 enum-told-2 c = c .match .keys3
 
--- src/states.rt:39:23
 enum-told-3 : tie.Need-enum-told-3
 enum-told-3 c = c .match .keys4
 
--- src/states.rt:29:1
 returns : tie.Need-returns
 unfolding designOf
 returns c = sym (ap (λ (u : Uses). nextWord (now (c .before .before .before .before .before .args .values)) (u .role)) (sym (c .before .before .uses-at .ensures)) ∙ ap (nextWord (now (c .before .before .before .before .before .args .values))) (c .enum-told .given .1))
 
--- src/states.rt:29:1
 returns-2 : tie.Need-returns-2
 unfolding designOf
 returns-2 c = sym (ap (λ (u : Uses). nextWord (now (c .before .before .before .before .before .before .before .args .values)) (u .role)) (sym (c .before .before .before .before .uses-at .ensures)) ∙ ap (nextWord (now (c .before .before .before .before .before .before .before .args .values))) (c .before .before .role .given .1))
 
--- src/states.rt:29:1
 returns-3 : tie.Need-returns-3
 unfolding designOf
 returns-3 c = sym (ap (λ (u : Uses). nextWord (now (c .before .before .before .before .before .args .values)) (u .role)) (sym (c .before .before .uses-at .ensures)) ∙ ap (nextWord (now (c .before .before .before .before .before .args .values))) (c .enum-told2 .given .1))
 
--- src/states.rt:29:1
 returns-4 : tie.Need-returns-4
 unfolding designOf
 returns-4 c = sym (ap (λ (u : Uses). nextWord (now (c .before .before .before .before .before .args .values)) (u .role)) (sym (c .before .before .uses-at .ensures)) ∙ ap (nextWord (now (c .before .before .before .before .before .args .values))) (c .enum-told3 .given .1))

@@ -1,0 +1,116 @@
+-- What the contracts of `start` and `cycle` promise, in the paper's words: what an accepted call writes, and that a refused one writes nothing.
+-- Assumes nothing.
+use mathlib.Core.Path.{_≡_, refl, sym, ap, subst, _∙_}
+use mathlib.Core.Bool.{Bool, true, false, cond}
+use mathlib.Core.List.{List}
+use Prim.Native.Nat.{ℕ, _<_}
+use native.Mathlib.Omega.{arith}
+use lib.ListN.{length, set}
+use Rattle.bits.specs.Lists.{wordAt}
+use Rattle.netlist.specs.Layout.{designOf, countOf}
+use Rattle.netlist.specs.declared.refusal.Refusal.{Refusal}
+use Rattle.netlist.specs.declared.refusal.Refusal.the-variants.{BadList}
+use Rattle.rules.specs.Sound.{Sound}
+use Rattle.rules.specs.Check.{roleAt}
+use Rattle.rules.specs.declared.check.Checked.{Checked}
+use Rattle.rules.specs.declared.check.Checked.the-variants.{Accepted, Refused as refused}
+use Rattle.rules.proofs.Acceptance.{accepted}
+use Rattle.clock.specs.Call.{answerAfter, isWide, leaves, startCall, cycleWith, cycleCall}
+use Rattle.clock.specs.Values.{unchanged, valueAt, valuesOf, nextWord, nextOf, startWord, startOf}
+use Rattle.clock.specs.declared.cycle.Clocked.{Clocked}
+use Rattle.clock.specs.declared.cycle.Clocked.the-variants.{Done, Refused}
+use Rattle.clock.proofs.CallLaws.{both-fit}
+use Rattle.clock.proofs.StateLaws.{start-word, next-word, start-passes, next-passes}
+use Rattle.clock.proofs.ValueLaws.{value-defined, values-narrow}
+
+-- ---- what it takes to be accepted
+
+-- the file was accepted, the lists have room for its records, and nothing else was refused
+pub record Passed (c : Checked) (fit : ℕ → Bool) (rest : Clocked) : Type 0 where
+  pub count : ℕ
+  pub checked : c ≡ Accepted count
+  pub room : fit count ≡ true
+  pub clear : rest ≡ Done
+
+pub passed : (c : Checked) (fit : ℕ → Bool) (rest : Clocked) → answerAfter c fit rest ≡ Done → Passed c fit rest
+unfolding answerAfter
+passed (refused r i) fit rest e = absurd (let z : _≡_ {A = ℕ} 0 1 = cc in omega arith)
+passed (Accepted n) fit rest e = go (fit n) refl e
+  where
+    go : (b : Bool) → fit n ≡ b → cond b rest (Refused BadList 0) ≡ Done → Passed (Accepted n) fit rest
+    go true q e = record { count = n; checked = refl; room = q; clear = e }
+    go false q e = absurd (let z : _≡_ {A = ℕ} 0 1 = cc in omega arith)
+
+-- ---- start
+
+-- "Start writes the reset states at the registers and 0 elsewhere in a board list."
+pub started : (file board : List ℕ) → startCall file board .answer ≡ Done → (i : ℕ) → i < countOf file
+    → wordAt (startCall file board .board) i ≡ startWord (roleAt (designOf file) i)
+unfolding startCall designOf
+started file board e i h = ap (λ (c : Clocked). wordAt (leaves c (startOf (designOf file)) board) i) e ∙ start-word (designOf file) i h
+
+-- "No lent word or byte changes."
+pub start-refused : (file board : List ℕ) (r : Refusal) (i : ℕ) → startCall file board .answer ≡ Refused r i → startCall file board .board ≡ board
+unfolding startCall
+start-refused file board r i e = ap (λ (c : Clocked). leaves c (startOf (designOf file)) board) e
+
+-- and a cycle can go on from there: 12 applies to no record
+pub start-goes-on : (file board : List ℕ) → startCall file board .answer ≡ Done → (i : ℕ) → i < countOf file
+    → isWide (designOf file) (startCall file board .board) i ≡ false
+unfolding startCall designOf
+start-goes-on file board e i h =
+    ap (λ (c : Clocked). isWide (designOf file) (leaves c (startOf (designOf file)) board) i) e
+    ∙ start-passes (designOf file) (accepted file _ (passed _ _ _ e .checked) .sound) i h
+
+-- ---- cycle
+
+module _ (file board next : List ℕ) (e : cycleCall file board next .answer ≡ Done) where
+  values-left : cycleCall file board next .board ≡ valuesOf (designOf file) unchanged board
+  unfolding cycleWith
+  values-left = ap (λ (c : Clocked). leaves c (valuesOf (designOf file) unchanged board) board) e
+
+  next-left : cycleCall file board next .next ≡ nextOf (designOf file) (valuesOf (designOf file) unchanged board)
+  unfolding cycleWith
+  next-left = ap (λ (c : Clocked). leaves c (nextOf (designOf file) (valuesOf (designOf file) unchanged board)) next) e
+
+  sound : Sound (designOf file)
+  unfolding cycleWith
+  sound = accepted file _ (passed _ _ _ e .checked) .sound
+
+  board-length : length board ≡ countOf file
+  unfolding cycleWith
+  board-length = let p = passed _ _ _ e in both-fit _ _ _ (p .room) .0 ∙ accepted file _ (p .checked) .count
+
+  -- "word i is the value of signal i": what its record gives from the values of its operands, and at an input or register from the word
+  -- that the board list held there
+  pub clocked : (i : ℕ) → i < countOf file
+      → wordAt (cycleCall file board next .board) i ≡ valueAt (designOf file) (set (cycleCall file board next .board) i (wordAt board i)) i
+  unfolding designOf
+  clocked i h =
+      subst (λ (l : List ℕ). wordAt l i ≡ valueAt (designOf file) (set l i (wordAt board i)) i) (sym values-left)
+      (value-defined (designOf file) sound unchanged board board-length i h)
+
+  -- "at each register, the value of its a, and 0 elsewhere"
+  pub loaded : (i : ℕ) → i < countOf file → wordAt (cycleCall file board next .next) i ≡ nextWord (cycleCall file board next .board) (roleAt (designOf file) i)
+  unfolding designOf
+  loaded i h =
+      ap (λ (l : List ℕ). wordAt l i) next-left
+      ∙ next-word (designOf file) (valuesOf (designOf file) unchanged board) i h
+      ∙ ap (λ (l : List ℕ). nextWord l (roleAt (designOf file) i)) (sym values-left)
+
+  -- the next cycle can go on from there: 12 applies to no record of the next list
+  pub goes-on : (i : ℕ) → i < countOf file → isWide (designOf file) (cycleCall file board next .next) i ≡ false
+  unfolding designOf
+  goes-on i h =
+      ap (λ (l : List ℕ). isWide (designOf file) l i) next-left
+      ∙ next-passes (designOf file) sound i h (valuesOf (designOf file) unchanged board)
+      (λ j g. values-narrow (designOf file) sound unchanged board board-length j g (λ v l. l))
+
+-- "No lent word or byte changes."
+pub cycle-refused : (file board next : List ℕ) (r : Refusal) (i : ℕ) → cycleCall file board next .answer ≡ Refused r i
+    → (cycleCall file board next .board ≡ board) × (cycleCall file board next .next ≡ next)
+unfolding cycleWith
+cycle-refused file board next r i e = (
+  ap (λ (c : Clocked). leaves c (valuesOf (designOf file) unchanged board) board) e,
+  ap (λ (c : Clocked). leaves c (nextOf (designOf file) (valuesOf (designOf file) unchanged board)) next) e,
+)
