@@ -5,8 +5,8 @@ use Prim.Native.Nat.{ℕ}
 use lib.Seq.{length-take-le}
 use borrow.Author.Needs.{needs}
 use denote.Ref.{now}
-use Rattle.rules.specs.Sound.{Acceptance}
 use Rattle.bits.proofs.ListLaws.{front-within, taken-length}
+use Rattle.rules.specs.Sound.{Acceptance}
 use Rattle.rules.proofs.Acceptance.{few}
 use Rattle.care.proofs.LeastMasks.{masks-length}
 use Rattle.masks.proofs.print_accepted.Statement.{statement}
@@ -18,31 +18,39 @@ array-borrow-prefix-words c = let args = c .before .args in
 
 slice-aggregate-fill : tie.Need-slice-aggregate-fill
 slice-aggregate-fill c = let args = c .before .before .args in
-    sym (length-take-le (args .n) _ (few (now (args .file)) (args .n) (c .before .before .pre)))
+    let pre = c .before .before .pre in
+    sym (length-take-le (args .n) _ (few (now (args .file)) (args .n) pre))
 
 fill-requires : tie.Need-fill-requires
 fill-requires c κs = let args = c .before .before .args in
+    let pre = c .before .before .pre in
     let file = now (args .file) in
-    let a = c .before .before .pre in
+    let a = pre in
     (subst (λ (n : ℕ). Acceptance file n) (a .count) a, length-take-le (args .n) _ (few file (args .n) a) ∙ a .count)
 
 print-tally-requires : tie.Need-print-tally-requires
 print-tally-requires c κs = search needs
 
 array-share-prefix-words : tie.Need-array-share-prefix-words
-array-share-prefix-words c = let args = c .before .before .before .before .before .args in
-    front-within (c .before .before .fill .last .1 .0) _ (masks-length (now (args .file)) (args .n) (c .before .before .before .before .before .pre) (c .before .before .fill .ensures .1))
+array-share-prefix-words c = let fill = c .before .before .fill in
+    let args = c .before .before .before .before .before .args in
+    let pre = c .before .before .before .before .before .pre in
+    front-within (fill .last .1 .0) _ (masks-length (now (args .file)) (args .n) pre (fill .ensures .1))
 
 slice-aggregate-print-masks : tie.Need-slice-aggregate-print-masks
-slice-aggregate-print-masks c = let args = c .before .before .before .before .before .before .args in
-    taken-length (c .before .before .before .fill .last .1 .0) _ (masks-length (now (args .file)) (args .n) (c .before .before .before .before .before .before .pre) (c .before .before .before .fill .ensures .1))
+slice-aggregate-print-masks c = let fill = c .before .before .before .fill in
+    let args = c .before .before .before .before .before .before .args in
+    let pre = c .before .before .before .before .before .before .pre in
+    taken-length (fill .last .1 .0) _ (masks-length (now (args .file)) (args .n) pre (fill .ensures .1))
 
 print-masks-requires : tie.Need-print-masks-requires
-print-masks-requires c κs = let args = c .before .before .before .before .before .before .args in
+print-masks-requires c κs = let fill = c .before .before .before .fill in
+    let args = c .before .before .before .before .before .before .args in
+    let pre = c .before .before .before .before .before .before .pre in
     let file = now (args .file) in
-    let a = c .before .before .before .before .before .before .pre in (
+    let a = pre in (
       subst (λ (n : ℕ). Acceptance file n) (a .count) a,
-      sym (taken-length (c .before .before .before .fill .last .1 .0) _ (masks-length file (args .n) a (c .before .before .before .fill .ensures .1))) ∙ a .count,
+      sym (taken-length (fill .last .1 .0) _ (masks-length file (args .n) a (fill .ensures .1))) ∙ a .count,
     )
 
 returns : tie.Need-returns

@@ -17,7 +17,9 @@ number-requires : tie.Need-number-requires
 number-requires c κs = tt
 
 refused-requires : tie.Need-refused-requires
-refused-requires c κs = (c .number .ensures .1, subst LowRecord (c .before .before .clocked .given .1) (c .before .before .before .before .pre))
+refused-requires c κs = let clocked = c .before .before .clocked in
+    let pre = c .before .before .before .before .pre in
+    (c .number .ensures .1, subst LowRecord (clocked .given .1) pre)
 
 returns : tie.Need-returns
 unfolding clockedAnswer
@@ -25,7 +27,8 @@ returns c = rw (c .enum-told .given .1)
 
 returns-2 : tie.Need-returns-2
 unfolding clockedAnswer
-returns-2 c = rw (c .before .before .before .clocked .given .1) (c .refused .ensures ∙ ap (λ (n : ℕ). refusedAnswer n (c .before .before .before .clocked .given .0 .1 .0)) (c .before .number .ensures .0))
+returns-2 c = let clocked = c .before .before .before .clocked in
+    rw (clocked .given .1) (c .refused .ensures ∙ ap (λ (n : ℕ). refusedAnswer n (clocked .given .0 .1 .0)) (c .before .number .ensures .0))
 
 pub answer-of-spec : {M : Type 1} → statement M
 answer-of-spec =

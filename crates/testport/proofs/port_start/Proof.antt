@@ -24,7 +24,10 @@ enum-known-n : tie.Need-enum-known-n
 enum-known-n c = c .match .keys1
 
 mul-if1 : tie.Need-mul-if1
-mul-if1 c = let f = few (now (c .before .before .before .before .before .before .args .file)) _ (accepted (now (c .before .before .before .before .before .before .args .file)) _ (sym (c .before .before .before .check .ensures) ∙ c .before .n .given .1)) in omega arith
+mul-if1 c = let check = c .before .before .before .check in
+    let args = c .before .before .before .before .before .before .args in
+    let file = now (args .file) in
+    let f = few file _ (accepted file _ (sym (check .ensures) ∙ c .before .n .given .1)) in omega arith
 
 number-requires : tie.Need-number-requires
 number-requires c κs = tt
@@ -34,12 +37,20 @@ refused-requires c κs = (c .number .ensures .1, lit< tt)
 
 returns : tie.Need-returns
 unfolding clockedAnswer
-returns c = let args = c .before .before .before .before .before .before .before .before .before .args in
-    let b = start-ends (now (args .file)) (now (args .board)) (answer-bad-list (λ n. eqb (length (now (args .board))) (8 * n)) Done (sym (c .before .before .before .before .before .before .check .ensures) ∙ c .before .before .before .before .n .given .1) (ne-eqb _ _ (c .before .before .if1 .taken))) in
+returns c = let if1 = c .before .before .if1 in
+    let n = c .before .before .before .before .n in
+    let check = c .before .before .before .before .before .before .check in
+    let args = c .before .before .before .before .before .before .before .before .before .args in
+    let board = now (args .board) in
+    let b = start-ends (now (args .file)) board
+    (answer-bad-list (λ n. eqb (length board) (8 * n)) Done (sym (check .ensures) ∙ n .given .1) (ne-eqb (length board) (8 * n .given .0 .0) (λ q. let t = if1 .taken in omega arith))) in
     (c .refused .ensures ∙ ap (λ (n : ℕ). refusedAnswer n 0) (c .before .number .ensures .0) ∙ ap clockedAnswer (b .0), b .1)
 
 reset-buffer-requires : tie.Need-reset-buffer-requires
-reset-buffer-requires c κs = (accepted (now (c .before .before .before .before .before .before .before .before .args .file)) _ (sym (c .before .before .before .before .before .check .ensures) ∙ c .before .before .before .n .given .1), c .before .if1 .left)
+reset-buffer-requires c κs = let n = c .before .before .before .n in
+    let check = c .before .before .before .before .before .check in
+    let args = c .before .before .before .before .before .before .before .before .args in
+    (accepted (now (args .file)) _ (sym (check .ensures) ∙ n .given .1), let t = c .before .if1 .left in omega arith)
 
 enum-known-r : tie.Need-enum-known-r
 enum-known-r c = c .match .keys2
@@ -48,22 +59,35 @@ number-requires-2 : tie.Need-number-requires-2
 number-requires-2 c κs = tt
 
 refused-requires-2 : tie.Need-refused-requires-2
-refused-requires-2 c κs = (c .number2 .ensures .1, let h = refused-low (now (c .before .before .before .before .before .before .before .args .file)) _ _ (sym (c .before .before .before .before .check .ensures) ∙ c .before .before .r .given .1) in omega arith)
+refused-requires-2 c κs = let r = c .before .before .r in
+    let check = c .before .before .before .before .check in
+    let args = c .before .before .before .before .before .before .before .args in
+    (c .number2 .ensures .1, let h = refused-low (now (args .file)) _ _ (sym (check .ensures) ∙ r .given .1) in omega arith)
 
 same-length : tie.Need-same-length
 same-length c = search needs
 
 returns-2 : tie.Need-returns-2
 unfolding clockedAnswer
-returns-2 c = let args = c .before .before .before .before .before .before .before .before .before .before .before .args in
-    let b = start-ends (now (args .file)) (now (args .board)) (answer-fit (λ n. eqb (length (now (args .board))) (8 * n)) Done (sym (c .before .before .before .before .before .before .before .before .check .ensures) ∙ c .before .before .before .before .before .before .n .given .1) (eq-eqb _ _ (c .before .before .before .before .if1 .left))) in
-    (ap clockedAnswer (b .0), c .before .before .reset-buffer .ensures ∙ b .1)
+returns-2 c = let reset-buffer = c .before .before .reset-buffer in
+    let if1 = c .before .before .before .before .if1 in
+    let n = c .before .before .before .before .before .before .n in
+    let check = c .before .before .before .before .before .before .before .before .check in
+    let start = c .before .before .before .before .before .before .before .before .before .before .before in
+    let args = start .args in
+    let board = now (args .board) in
+    let b = start-ends (now (args .file)) board
+    (answer-fit (λ n. eqb (length board) (8 * n)) Done (sym (check .ensures) ∙ n .given .1) (eq-eqb (length board) (8 * n .given .0 .0) (let t = if1 .left in omega arith))) in
+    (ap clockedAnswer (b .0), reset-buffer .ensures ∙ b .1)
 
 returns-3 : tie.Need-returns-3
 unfolding clockedAnswer
-returns-3 c = let args = c .before .before .before .before .before .before .before .before .args in
-    let b = start-ends (now (args .file)) (now (args .board)) (answer-refused (λ n. eqb (length (now (args .board))) (8 * n)) Done (sym (c .before .before .before .before .before .check .ensures) ∙ c .before .before .before .r .given .1)) in
-    (c .refused2 .ensures ∙ ap (λ (n : ℕ). refusedAnswer n (c .before .before .before .r .given .0 .1 .0)) (c .before .number2 .ensures .0) ∙ ap clockedAnswer (b .0), b .1)
+returns-3 c = let r = c .before .before .before .r in
+    let check = c .before .before .before .before .before .check in
+    let args = c .before .before .before .before .before .before .before .before .args in
+    let board = now (args .board) in
+    let b = start-ends (now (args .file)) board (answer-refused (λ n. eqb (length board) (8 * n)) Done (sym (check .ensures) ∙ r .given .1)) in
+    (c .refused2 .ensures ∙ ap (λ (n : ℕ). refusedAnswer n (r .given .0 .1 .0)) (c .before .number2 .ensures .0) ∙ ap clockedAnswer (b .0), b .1)
 
 pub port-start-spec : {M : Type 1} → statement M
 port-start-spec =

@@ -17,28 +17,46 @@ array-borrow-prefix-words : tie.Need-array-borrow-prefix-words
 array-borrow-prefix-words c = few (now (c .before .before .args .file)) (c .before .before .args .n) (c .before .before .pre .0)
 
 slice-aggregate-reset : tie.Need-slice-aggregate-reset
-slice-aggregate-reset c = sym (length-take-le (c .before .before .before .args .n) _ (few (now (c .before .before .before .args .file)) (c .before .before .before .args .n) (c .before .before .before .pre .0)))
+slice-aggregate-reset c = let args = c .before .before .before .args in
+    let pre = c .before .before .before .pre in
+    sym (length-take-le (args .n) _ (few (now (args .file)) (args .n) (pre .0)))
 
 reset-requires : tie.Need-reset-requires
 reset-requires c κs = let args = c .before .before .before .args in
+    let pre = c .before .before .before .pre in
     let file = now (args .file) in
-    let a = c .before .before .before .pre .0 in
+    let a = pre .0 in
     (subst (Acceptance file) (a .count) a, length-take-le (args .n) _ (few file (args .n) a) ∙ a .count)
 
 array-share-prefix-words : tie.Need-array-share-prefix-words
-array-share-prefix-words c = front-within (c .before .before .reset .last .1 .0) _ (start-length (now (c .before .before .before .before .before .before .args .file)) (c .before .before .before .before .before .before .args .n) (c .before .before .before .before .before .before .pre .0) (c .before .before .reset .ensures))
+array-share-prefix-words c = let reset = c .before .before .reset in
+    let args = c .before .before .before .before .before .before .args in
+    let pre = c .before .before .before .before .before .before .pre in
+    front-within (reset .last .1 .0) _ (start-length (now (args .file)) (args .n) (pre .0) (reset .ensures))
 
 slice-aggregate-write-words : tie.Need-slice-aggregate-write-words
-slice-aggregate-write-words c = taken-length (c .before .before .before .reset .last .1 .0) _ (start-length (now (c .before .before .before .before .before .before .before .args .file)) (c .before .before .before .before .before .before .before .args .n) (c .before .before .before .before .before .before .before .pre .0) (c .before .before .before .reset .ensures))
+slice-aggregate-write-words c = let reset = c .before .before .before .reset in
+    let args = c .before .before .before .before .before .before .before .args in
+    let pre = c .before .before .before .before .before .before .before .pre in
+    taken-length (reset .last .1 .0) _ (start-length (now (args .file)) (args .n) (pre .0) (reset .ensures))
 
 write-words-requires : tie.Need-write-words-requires
-write-words-requires c κs = c .before .before .before .before .before .before .before .pre .1 ∙ ap (λ (n : ℕ). 8 * n) (taken-length (c .before .before .before .reset .last .1 .0) _ (start-length (now (c .before .before .before .before .before .before .before .args .file)) (c .before .before .before .before .before .before .before .args .n) (c .before .before .before .before .before .before .before .pre .0) (c .before .before .before .reset .ensures)))
+write-words-requires c κs = let reset = c .before .before .before .reset in
+    let args = c .before .before .before .before .before .before .before .args in
+    let pre = c .before .before .before .before .before .before .before .pre in
+    pre .1 ∙ ap (λ (n : ℕ). 8 * n) (taken-length (reset .last .1 .0) _ (start-length (now (args .file)) (args .n) (pre .0) (reset .ensures)))
 
 same-length : tie.Need-same-length
 same-length c = search needs
 
 returns : tie.Need-returns
-returns c = c .before .before .write-words .ensures ∙ ap wordBytes (front-taken (c .before .before .before .before .before .before .reset .last .1 .0) _ (start-length (now (c .before .before .before .before .before .before .before .before .before .before .args .file)) (c .before .before .before .before .before .before .before .before .before .before .args .n) (c .before .before .before .before .before .before .before .before .before .before .pre .0) (c .before .before .before .before .before .before .reset .ensures)) ∙ c .before .before .before .before .before .before .reset .ensures)
+returns c = let write-words = c .before .before .write-words in
+    let reset = c .before .before .before .before .before .before .reset in
+    let start = c .before .before .before .before .before .before .before .before .before .before in
+    let args = start .args in
+    let pre = start .pre in
+    write-words .ensures ∙ ap wordBytes
+    (front-taken (reset .last .1 .0) _ (start-length (now (args .file)) (args .n) (pre .0) (reset .ensures)) ∙ reset .ensures)
 
 pub reset-buffer-spec : {M : Type 1} → statement M
 reset-buffer-spec =

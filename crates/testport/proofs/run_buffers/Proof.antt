@@ -11,24 +11,40 @@ use Rattle.testport.proofs.run_buffers.Statement.{statement}
 use Rattle.testport.proofs.run_buffers.Tie as tie
 
 array-borrow-prefix-words : tie.Need-array-borrow-prefix-words
-array-borrow-prefix-words c = few (now (c .before .before .before .before .before .args .file)) (c .before .before .before .before .before .args .n) (c .before .before .before .before .before .pre .0)
+array-borrow-prefix-words c = let args = c .before .before .before .before .before .args in
+    let pre = c .before .before .before .before .before .pre in
+    few (now (args .file)) (args .n) (pre .0)
 
 slice-aggregate-run-words : tie.Need-slice-aggregate-run-words
-slice-aggregate-run-words c = sym (length-take-le (c .before .before .before .before .before .before .args .n) _ (few (now (c .before .before .before .before .before .before .args .file)) (c .before .before .before .before .before .before .args .n) (c .before .before .before .before .before .before .pre .0)))
+slice-aggregate-run-words c = let args = c .before .before .before .before .before .before .args in
+    let pre = c .before .before .before .before .before .before .pre in
+    sym (length-take-le (args .n) _ (few (now (args .file)) (args .n) (pre .0)))
 
 array-borrow-prefix-states : tie.Need-array-borrow-prefix-states
-array-borrow-prefix-states c = few (now (c .before .before .before .before .before .before .args .file)) (c .before .before .before .before .before .before .args .n) (c .before .before .before .before .before .before .pre .0)
+array-borrow-prefix-states c = let args = c .before .before .before .before .before .before .args in
+    let pre = c .before .before .before .before .before .before .pre in
+    few (now (args .file)) (args .n) (pre .0)
 
 slice-aggregate-run-words-2 : tie.Need-slice-aggregate-run-words-2
-slice-aggregate-run-words-2 c = sym (length-take-le (c .before .before .before .before .before .before .before .args .n) _ (few (now (c .before .before .before .before .before .before .before .args .file)) (c .before .before .before .before .before .before .before .args .n) (c .before .before .before .before .before .before .before .pre .0)))
+slice-aggregate-run-words-2 c = let args = c .before .before .before .before .before .before .before .args in
+    let pre = c .before .before .before .before .before .before .before .pre in
+    sym (length-take-le (args .n) _ (few (now (args .file)) (args .n) (pre .0)))
 
 run-words-requires : tie.Need-run-words-requires
 run-words-requires c κs = let args = c .before .before .before .before .before .before .before .args in
+    let pre = c .before .before .before .before .before .before .before .pre in
     let file = now (args .file) in
-    let a = c .before .before .before .before .before .before .before .pre .0 in
+    let a = pre .0 in
     let size = ap (λ (n : ℕ). 8 * n) (a .count) in
     let words = length-take-le (args .n) _ (few file (args .n) a) ∙ a .count in
-    record { accepted = subst (Acceptance file) (a .count) a; board-size = c .before .before .before .before .before .before .before .pre .1 ∙ size; next-size = c .before .before .before .before .before .before .before .pre .2 ∙ size; words-size = words; states-size = words }
+    record {
+      accepted = subst (Acceptance file) (a .count) a;
+      board-size = pre .1 ∙ size;
+      next-size = pre .2
+          ∙ size;
+      words-size = words;
+      states-size = words;
+    }
 
 same-length : tie.Need-same-length
 same-length c = search needs

@@ -22,38 +22,49 @@ loop-holds : tie.Need-loop-holds Inv-loop μ-loop
 loop-holds c = (omega arith, refl, filled-none _ _)
 
 mul-read-64 : tie.Need-mul-read-64 Inv-loop μ-loop
-mul-read-64 c = let p = c .before .before .before .before .pre in let e = c .before .loop .inv .1 in let t = c .loop-test .taken in omega arith
+mul-read-64 c = let pre = c .before .before .before .before .pre in
+    let p = pre in let e = c .before .loop .inv .1 in let t = c .loop-test .taken in omega arith
 
 read-64-requires : tie.Need-read-64-requires Inv-loop μ-loop
-read-64-requires c κs = let p = c .before .before .before .before .pre in let e = c .before .loop .inv .1 in let t = c .loop-test .taken in omega arith
+read-64-requires c κs = let pre = c .before .before .before .before .pre in
+    let p = pre in let e = c .before .loop .inv .1 in let t = c .loop-test .taken in omega arith
 
 mul-words : tie.Need-mul-words Inv-loop μ-loop
-mul-words c = let p = c .before .before .before .before .before .pre in let e = c .before .before .loop .inv .1 in let t = c .before .loop-test .taken in omega arith
+mul-words c = let loop = c .before .before .loop in
+    let pre = c .before .before .before .before .before .pre in
+    let p = pre in let e = loop .inv .1 in let t = c .before .loop-test .taken in omega arith
 
 slice-write-words : tie.Need-slice-write-words Inv-loop μ-loop
 slice-write-words c = c .before .loop-test .taken
 
 add-i : tie.Need-add-i Inv-loop μ-loop
-add-i c = let p = c .before .before .before .before .before .pre in let e = c .before .before .loop .inv .1 in let t = c .before .loop-test .taken in omega arith
+add-i c = let loop = c .before .before .loop in
+    let pre = c .before .before .before .before .before .pre in
+    let p = pre in let e = loop .inv .1 in let t = c .before .loop-test .taken in omega arith
 
 loop-less : tie.Need-loop-less Inv-loop μ-loop
 loop-less c = let e = c .before .before .loop .inv .1 in let t = c .before .loop-test .taken in omega arith
 
 loop-again : tie.Need-loop-again Inv-loop μ-loop
-loop-again c = let e = c .before .before .loop .inv .1 in let t = c .before .loop-test .taken in (
-  omega arith,
-  length-set (c .before .before .loop .words) (c .before .before .loop .i) (c .read-64 .result) ∙ e,
-  filled-next (λ j. numberAt (now (c .before .before .before .before .before .args .s)) (8 * j) 8) (c .before .before .loop .words) (c .before .before .loop .i) (c .read-64 .result) (c .before .before .loop .inv .2) t (c .read-64 .ensures),
-)
+loop-again c = let loop = c .before .before .loop in
+    let args = c .before .before .before .before .before .args in
+    let e = loop .inv .1 in let t = c .before .loop-test .taken in (
+      omega arith,
+      length-set (loop .words) (loop .i) (c .read-64 .result) ∙ e,
+      filled-next (λ j. numberAt (now (args .s)) (8 * j) 8) (loop .words) (loop .i) (c .read-64 .result) (loop .inv .2) t (c .read-64 .ensures),
+    )
 
 same-length : tie.Need-same-length Inv-loop μ-loop
 same-length c = c .before .loop .inv .1
 
 returns : tie.Need-returns Inv-loop μ-loop
 unfolding wordsIn
-returns c = let e = c .before .loop .inv .1 in let t = c .loop-test .left in let g = c .before .loop .inv .0 in
-    let f : ℕ → ℕ = λ j. numberAt (now (c .before .before .before .before .args .s)) (8 * j) 8 in
-    filled-all f _ (c .before .loop .words) e (subst (λ (n : ℕ). Filled f (c .before .loop .words) n) (let q : c .before .loop .i ≡ length (now (c .before .before .before .before .args .words)) = omega arith in q) (c .before .loop .inv .2))
+returns c = let args = c .before .before .before .before .args in
+    let e = c .before .loop .inv .1 in let t = c .loop-test .left in let g = c .before .loop .inv .0 in
+    let f : ℕ → ℕ = λ j. numberAt (now (args .s)) (8 * j) 8 in
+    filled-all f _ (c .before .loop .words) e
+    (subst (λ (n : ℕ). Filled f (c .before .loop .words) n) (let q : c .before .loop .i ≡ length (now (args .words)) = omega arith in q)
+    (c .before .loop .inv .2))
 
 pub read-words-spec : {M : Type 1} → statement M
 read-words-spec =

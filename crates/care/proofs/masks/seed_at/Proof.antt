@@ -14,16 +14,22 @@ uses-at-requires : tie.Need-uses-at-requires
 uses-at-requires c κs = holds-record (now (c .before .args .file)) (c .before .pre .0) (c .before .args .i) (c .before .pre .1)
 
 width-at-requires : tie.Need-width-at-requires
-width-at-requires c κs = holds-record (now (c .before .before .args .file)) (c .before .before .pre .0) (c .before .before .args .i) (c .before .before .pre .1)
+width-at-requires c κs = let args = c .before .before .args in
+    let pre = c .before .before .pre in
+    holds-record (now (args .file)) (pre .0) (args .i) (pre .1)
 
 seed-of-requires : tie.Need-seed-of-requires
 unfolding designOf recordAt
-seed-of-requires c κs = subst (λ (w : ℕ). w ≤ 64) (sym (c .width-at .ensures)) (c .before .before .before .pre .0 .sound .each (c .before .before .before .args .i) (c .before .before .before .pre .1) .narrow)
+seed-of-requires c κs = let args = c .before .before .before .args in
+    let pre = c .before .before .before .pre in
+    subst (λ (w : ℕ). w ≤ 64) (sym (c .width-at .ensures)) (pre .0 .sound .each (args .i) (pre .1) .narrow)
 
 returns : tie.Need-returns
 unfolding designOf recordAt
-returns c = c .seed-of .ensures ∙ ap (seedOf (c .before .before .uses-at .result .role)) (c .before .width-at .ensures)
-    ∙ ap (λ (u : Uses). seedOf (u .role) (designOf (now (c .before .before .before .before .args .file)) .at (c .before .before .before .before .args .i) .width)) (c .before .before .uses-at .ensures)
+returns c = let uses-at = c .before .before .uses-at in
+    let args = c .before .before .before .before .args in
+    c .seed-of .ensures ∙ ap (seedOf (uses-at .result .role)) (c .before .width-at .ensures)
+    ∙ ap (λ (u : Uses). seedOf (u .role) (designOf (now (args .file)) .at (args .i) .width)) (uses-at .ensures)
 
 pub seed-at-spec : {M : Type 1} → statement M
 seed-at-spec = tie.close (tie.spec uses-at-requires width-at-requires seed-of-requires returns)

@@ -25,16 +25,26 @@ both-have-requires : tie.Need-both-have-requires
 both-have-requires c κs = tt
 
 returns : tie.Need-returns
-returns c = let args = c .before .before .before .before .before .before .before .before .before .args in
+returns c = let n = c .before .before .before .n in
+    let check = c .before .before .before .before .before .check in
+    let args = c .before .before .before .before .before .before .before .before .before .args in
+    let file = now (args .file) in
     let board = now (args .board) in
     let next = now (args .next) in
-    cycle-ends (now (args .file)) board next (answer-bad-list (λ n. eqb (length board) n && eqb (length next) n) (wordsAnswer (designOf (now (args .file))) board) (sym (c .before .before .before .before .before .check .ensures) ∙ c .before .before .before .n .given .1) (sym (c .before .both-have .ensures) ∙ not-true _ (c .if1 .taken)))
+    cycle-ends file board next
+    (answer-bad-list (λ n. eqb (length board) n && eqb (length next) n) (wordsAnswer (designOf file) board) (sym (check .ensures) ∙ n .given .1)
+    (sym (c .before .both-have .ensures) ∙ not-true _ (c .if1 .taken)))
 
 run-requires : tie.Need-run-requires
-run-requires c κs = let args = c .before .before .before .before .before .before .before .before .before .before .before .args in
+run-requires c κs = let if1 = c .before .before .if1 in
+    let both-have = c .before .before .before .both-have in
+    let n = c .before .before .before .before .before .n in
+    let check = c .before .before .before .before .before .before .before .check in
+    let start = c .before .before .before .before .before .before .before .before .before .before .before in
+    let args = start .args in
     let file = now (args .file) in
-    let a = accepted file _ (sym (c .before .before .before .before .before .before .before .check .ensures) ∙ c .before .before .before .before .before .n .given .1) in
-    let b = both-fit _ _ _ (sym (c .before .before .before .both-have .ensures) ∙ not-false _ (c .before .before .if1 .left)) in
+    let a = accepted file _ (sym (check .ensures) ∙ n .given .1) in
+    let b = both-fit _ _ _ (sym (both-have .ensures) ∙ not-false _ (if1 .left)) in
     let e = a .count in
     (subst (Acceptance file) (a .count) a, b .0 ∙ e, b .1 ∙ e)
 
@@ -48,17 +58,32 @@ same-length-2 : tie.Need-same-length-2
 same-length-2 c = search needs
 
 returns-2 : tie.Need-returns-2
-returns-2 c = let args = c .before .before .before .before .before .before .before .before .before .before .before .before .before .before .before .before .args in
+returns-2 c = let run = c .before .before .before .before .run in
+    let if1 = c .before .before .before .before .before .before .before .if1 in
+    let both-have = c .before .before .before .before .before .before .before .before .both-have in
+    let n-at = c .before .before .before .before .before .before .before .before .before .before in
+    let n = n-at .n in
+    let check-at = n-at .before .before in
+    let check = check-at .check in
+    let start = check-at .before .before .before .before in
+    let args = start .args in
+    let file = now (args .file) in
     let board = now (args .board) in
     let next = now (args .next) in
-    let b = cycle-ends (now (args .file)) board next (answer-fit (λ n. eqb (length board) n && eqb (length next) n) (wordsAnswer (designOf (now (args .file))) board) (sym (c .before .before .before .before .before .before .before .before .before .before .before .before .check .ensures) ∙ c .before .before .before .before .before .before .before .before .before .before .n .given .1) (sym (c .before .before .before .before .before .before .before .before .both-have .ensures) ∙ not-false _ (c .before .before .before .before .before .before .before .if1 .left)) ∙ sym (c .before .before .before .before .run .ensures .0)) in
-    (b .0, (c .before .before .before .before .run .ensures .1 .0 ∙ b .1 .0, c .before .before .before .before .run .ensures .1 .1 ∙ b .1 .1))
+    let b = cycle-ends file board next
+    (answer-fit (λ n. eqb (length board) n && eqb (length next) n) (wordsAnswer (designOf file) board) (sym (check .ensures) ∙ n .given .1)
+    (sym (both-have .ensures) ∙ not-false _ (if1 .left)) ∙ sym (run .ensures .0)) in
+    (b .0, (run .ensures .1 .0 ∙ b .1 .0, run .ensures .1 .1 ∙ b .1 .1))
 
 returns-3 : tie.Need-returns-3
-returns-3 c = let args = c .before .before .before .before .before .before .before .args in
+returns-3 c = let check = c .before .before .before .check in
+    let args = c .before .before .before .before .before .before .before .args in
+    let file = now (args .file) in
     let board = now (args .board) in
     let next = now (args .next) in
-    cycle-ends (now (args .file)) board next (answer-refused (λ n. eqb (length board) n && eqb (length next) n) (wordsAnswer (designOf (now (args .file))) board) (sym (c .before .before .before .check .ensures) ∙ c .before .r .given .1))
+    cycle-ends file board next
+    (answer-refused (λ n. eqb (length board) n && eqb (length next) n) (wordsAnswer (designOf file) board)
+    (sym (check .ensures) ∙ c .before .r .given .1))
 
 pub cycle-spec : {M : Type 1} → statement M
 cycle-spec =

@@ -11,16 +11,22 @@ use Rattle.clock.proofs.cycle.run.Statement.{statement}
 use Rattle.clock.proofs.cycle.run.Tie as tie
 
 check-words-requires : tie.Need-check-words-requires
-check-words-requires c κs = (c .before .before .before .before .pre .0, c .before .before .before .before .pre .1)
+check-words-requires c κs = let pre = c .before .before .before .before .pre in
+    (pre .0, pre .1)
 
 enum-told : tie.Need-enum-told
 enum-told c = c .match .keys1
 
 work-out-requires : tie.Need-work-out-requires
-work-out-requires c κs = (c .before .before .before .before .before .before .before .before .pre .0, c .before .before .before .before .before .before .before .before .pre .1)
+work-out-requires c κs = let pre = c .before .before .before .before .before .before .before .before .pre in
+    (pre .0, pre .1)
 
 load-requires : tie.Need-load-requires
-load-requires c κs = (c .before .before .before .before .before .before .before .before .before .before .before .before .before .pre .0, ap length (c .before .before .before .before .work-out .ensures) ∙ length-values (designOf (now (c .before .before .before .before .before .before .before .before .before .before .before .before .before .args .file))) unchanged (now (c .before .before .before .before .before .before .before .before .before .before .before .before .before .args .board)) ∙ c .before .before .before .before .before .before .before .before .before .before .before .before .before .pre .1, c .before .before .before .before .before .before .before .before .before .before .before .before .before .pre .2)
+load-requires c κs = let work-out = c .before .before .before .before .work-out in
+    let start = c .before .before .before .before .before .before .before .before .before .before .before .before .before in
+    let args = start .args in
+    let pre = start .pre in
+    (pre .0, ap length (work-out .ensures) ∙ length-values (designOf (now (args .file))) unchanged (now (args .board)) ∙ pre .1, pre .2)
 
 enum-known-r : tie.Need-enum-known-r
 enum-known-r c = c .match .keys2
@@ -32,7 +38,17 @@ same-length-2 : tie.Need-same-length-2
 same-length-2 c = search needs
 
 returns : tie.Need-returns
-returns c = (sym (c .before .before .before .before .before .before .before .before .before .enum-told .given .1) ∙ c .before .before .before .before .before .before .before .before .before .before .before .check-words .ensures, (c .before .before .before .before .before .before .before .work-out .ensures, c .before .before .load .ensures ∙ ap (nextOf (designOf (now (c .before .before .before .before .before .before .before .before .before .before .before .before .before .before .before .before .args .file)))) (c .before .before .before .before .before .before .before .work-out .ensures)))
+returns c = let load = c .before .before .load in
+    let work-out = c .before .before .before .before .before .before .before .work-out in
+    let enum-told = c .before .before .before .before .before .before .before .before .before .enum-told in
+    let check-words-at = c .before .before .before .before .before .before .before .before .before .before .before in
+    let check-words = check-words-at .check-words in
+    let start = check-words-at .before .before .before .before .before in
+    let args = start .args in (
+      sym (enum-told .given .1)
+          ∙ check-words .ensures,
+      (work-out .ensures, load .ensures ∙ ap (nextOf (designOf (now (args .file)))) (work-out .ensures)),
+    )
 
 same-length-3 : tie.Need-same-length-3
 same-length-3 c = search needs

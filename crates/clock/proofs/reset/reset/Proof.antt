@@ -25,29 +25,37 @@ loop-holds : tie.Need-loop-holds Inv-loop μ-loop
 loop-holds c = (omega arith, c .before .before .pre .1, filled-none _ _)
 
 start-word-requires : tie.Need-start-word-requires Inv-loop μ-loop
-start-word-requires c κs = holds-record (now (c .before .before .before .before .args .file)) (c .before .before .before .before .pre .0) (c .before .loop .i) (let e = c .before .loop .inv .1 in let t = c .loop-test .taken in omega arith)
+start-word-requires c κs = let args = c .before .before .before .before .args in
+    let pre = c .before .before .before .before .pre in
+    holds-record (now (args .file)) (pre .0) (c .before .loop .i) (let e = c .before .loop .inv .1 in let t = c .loop-test .taken in omega arith)
 
 mul-list : tie.Need-mul-list Inv-loop μ-loop
 unfolding designOf
-mul-list c = let f = c .before .before .before .before .before .pre .0 .sound .few in let e = c .before .before .loop .inv .1 in let t = c .before .loop-test .taken in omega arith
+mul-list c = let loop = c .before .before .loop in
+    let pre = c .before .before .before .before .before .pre in
+    let f = pre .0 .sound .few in let e = loop .inv .1 in let t = c .before .loop-test .taken in omega arith
 
 slice-write-list : tie.Need-slice-write-list Inv-loop μ-loop
 slice-write-list c = c .before .loop-test .taken
 
 add-i : tie.Need-add-i Inv-loop μ-loop
 unfolding designOf
-add-i c = let f = c .before .before .before .before .before .pre .0 .sound .few in let e = c .before .before .loop .inv .0 in omega arith
+add-i c = let loop = c .before .before .loop in
+    let pre = c .before .before .before .before .before .pre in
+    let f = pre .0 .sound .few in let e = loop .inv .0 in omega arith
 
 loop-less : tie.Need-loop-less Inv-loop μ-loop
 loop-less c = let e = c .before .before .loop .inv .1 in let t = c .before .loop-test .taken in omega arith
 
 loop-again : tie.Need-loop-again Inv-loop μ-loop
 loop-again c = let loop = c .before .before .loop in
+    let args = c .before .before .before .before .before .args in
     let e = loop .inv .1 in
     let t = c .before .loop-test .taken in (
       omega arith,
       length-set (loop .list) (loop .i) (c .start-word .result) ∙ e,
-      filled-next (λ j. startWord (roleAt (designOf (now (c .before .before .before .before .before .args .file))) j)) (loop .list) (loop .i) (c .start-word .result) (loop .inv .2) t (c .start-word .ensures),
+      filled-next (λ j. startWord (roleAt (designOf (now (args .file))) j)) (loop .list) (loop .i) (c .start-word .result) (loop .inv .2) t
+          (c .start-word .ensures),
     )
 
 same-length : tie.Need-same-length Inv-loop μ-loop
@@ -55,12 +63,14 @@ same-length c = c .before .loop .inv .1 ∙ sym (c .before .before .before .befo
 
 returns : tie.Need-returns Inv-loop μ-loop
 unfolding startOf designOf
-returns c = let loop = c .before .loop in
+returns c = let args = c .before .before .before .before .args in
+    let file = now (args .file) in
+    let loop = c .before .loop in
     let e = loop .inv .1 in
     let t = c .loop-test .left in
     let g = loop .inv .0 in
-    let f : ℕ → ℕ = λ j. startWord (roleAt (designOf (now (c .before .before .before .before .args .file))) j) in
-    filled-all f _ (loop .list) e (subst (Filled f (loop .list)) (let q : loop .i ≡ countOf (now (c .before .before .before .before .args .file)) = omega arith in q) (loop .inv .2))
+    let f : ℕ → ℕ = λ j. startWord (roleAt (designOf file) j) in
+    filled-all f _ (loop .list) e (subst (Filled f (loop .list)) (let q : loop .i ≡ countOf file = omega arith in q) (loop .inv .2))
 
 pub reset-spec : {M : Type 1} → statement M
 reset-spec =

@@ -24,19 +24,23 @@ enum-told-3 c = c .match .keys4
 
 returns : tie.Need-returns
 unfolding designOf
-returns c = sym (ap (λ (u : Uses). startWord (u .role)) (sym (c .before .before .uses-at .ensures)) ∙ ap startWord (c .enum-told .given .1))
+returns c = let uses-at = c .before .before .uses-at in
+    sym (ap (λ (u : Uses). startWord (u .role)) (sym (uses-at .ensures)) ∙ ap startWord (c .enum-told .given .1))
 
 returns-2 : tie.Need-returns-2
 unfolding designOf
-returns-2 c = sym (ap (λ (u : Uses). startWord (u .role)) (sym (c .before .before .before .uses-at .ensures)) ∙ ap startWord (c .before .role .given .1))
+returns-2 c = let uses-at = c .before .before .before .uses-at in
+    sym (ap (λ (u : Uses). startWord (u .role)) (sym (uses-at .ensures)) ∙ ap startWord (c .before .role .given .1))
 
 returns-3 : tie.Need-returns-3
 unfolding designOf
-returns-3 c = sym (ap (λ (u : Uses). startWord (u .role)) (sym (c .before .before .uses-at .ensures)) ∙ ap startWord (c .enum-told2 .given .1))
+returns-3 c = let uses-at = c .before .before .uses-at in
+    sym (ap (λ (u : Uses). startWord (u .role)) (sym (uses-at .ensures)) ∙ ap startWord (c .enum-told2 .given .1))
 
 returns-4 : tie.Need-returns-4
 unfolding designOf
-returns-4 c = sym (ap (λ (u : Uses). startWord (u .role)) (sym (c .before .before .uses-at .ensures)) ∙ ap startWord (c .enum-told3 .given .1))
+returns-4 c = let uses-at = c .before .before .uses-at in
+    sym (ap (λ (u : Uses). startWord (u .role)) (sym (uses-at .ensures)) ∙ ap startWord (c .enum-told3 .given .1))
 
 pub start-word-spec : {M : Type 1} → statement M
 start-word-spec =

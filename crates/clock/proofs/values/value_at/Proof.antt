@@ -12,7 +12,9 @@ result-at-requires : tie.Need-result-at-requires
 result-at-requires c κs = c .before .before .pre
 
 keep-at-requires : tie.Need-keep-at-requires
-keep-at-requires c κs = holds-record (now (c .before .before .before .args .file)) (c .before .before .before .pre .0) (c .before .before .before .args .i) (c .before .before .before .pre .1)
+keep-at-requires c κs = let args = c .before .before .before .args in
+    let pre = c .before .before .before .pre in
+    holds-record (now (args .file)) (pre .0) (args .i) (pre .1)
 
 returns : tie.Need-returns
 unfolding designOf recordAt

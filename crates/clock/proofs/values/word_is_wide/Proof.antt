@@ -25,10 +25,12 @@ enum-told-4 : tie.Need-enum-told-4
 enum-told-4 c = c .match .keys4
 
 returns : tie.Need-returns
-returns c = rw (c .before .enum-told .given .1) (ap not (short-test (c .before .before .before .args .word) (c .before .before .before .args .w) (c .shr .result) (c .shr .ensures)))
+returns c = let args = c .before .before .before .args in
+    rw (c .before .enum-told .given .1) (ap not (short-test (args .word) (args .w) (c .shr .result) (c .shr .ensures)))
 
 returns-2 : tie.Need-returns-2
-returns-2 c = rw (c .before .enum-told2 .given .1) (ap not (short-test (c .before .before .before .args .word) (c .before .before .before .args .w) (c .shr2 .result) (c .shr2 .ensures)))
+returns-2 c = let args = c .before .before .before .args in
+    rw (c .before .enum-told2 .given .1) (ap not (short-test (args .word) (args .w) (c .shr2 .result) (c .shr2 .ensures)))
 
 returns-3 : tie.Need-returns-3
 returns-3 c = rw (c .enum-told3 .given .1)

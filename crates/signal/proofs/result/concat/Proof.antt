@@ -16,7 +16,8 @@ add-requires c κs = search needs
 
 returns : tie.Need-returns
 returns c = let args = c .before .before .args in
-    c .add .ensures ∙ ap (λ (x : ℕ). sumAt (args .w) x (args .y)) (c .before .shl .ensures) ∙ sum-cut _ (args .y) (c .before .before .pre)
+    let pre = c .before .before .pre in
+    c .add .ensures ∙ ap (λ (x : ℕ). sumAt (args .w) x (args .y)) (c .before .shl .ensures) ∙ sum-cut _ (args .y) pre
 
 pub concat-spec : {M : Type 1} → statement M
 concat-spec = tie.close (tie.spec shl-requires add-requires returns)

@@ -16,7 +16,8 @@ cut-to-requires c κs = search needs
 
 returns : tie.Need-returns
 returns c = let args = c .before .before .args in
-    c .cut-to .ensures ∙ ap (cut (args .w)) (c .before .mul .ensures) ∙ cut-cut (args .x * args .y) (c .before .before .pre)
+    let pre = c .before .before .pre in
+    c .cut-to .ensures ∙ ap (cut (args .w)) (c .before .mul .ensures) ∙ cut-cut (args .x * args .y) pre
 
 pub product-spec : {M : Type 1} → statement M
 product-spec = tie.close (tie.spec mul-requires cut-to-requires returns)
