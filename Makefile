@@ -2,9 +2,10 @@
 # `make sample` shows the program on a sample file; `make test` is the gate; `make bench` compares speed with plain C.
 
 LIBRARY = target/staticlib/libdesktop.a
+PORT = target/staticlib/libtestport.a
 PROGRAM = target/bin/masks
 
-.PHONY: program sample library test bench
+.PHONY: program sample library port test bench
 
 program:
 	@rt check masks
@@ -16,8 +17,11 @@ sample: program
 library:
 	rt staticlib desktop
 
+port:
+	rt staticlib testport
+
 test:
 	@tests/gate
 
-bench: library
-	@tests/bench/run $(LIBRARY)
+bench: library port
+	@tests/bench/run $(LIBRARY) $(PORT)

@@ -11,7 +11,7 @@ use Rattle.netlist.specs.declared.record.Kind.the-variants.{Input, Constant, Re
 use Rattle.netlist.specs.declared.record.Record.{Record}
 
 -- The table's column "result" for a record of w bits: `own` is the record's own word on the board, x, y and z are the values of a, b and
--- c, and wb is W(b). No result has more than w bits.
+-- c, and wb is W(b).
 abbrev pub resultOf : Kind → ℕ → ℕ → ℕ → ℕ → ℕ → ℕ → ℕ
 -- "the pin's word"
 resultOf Input w wb own x y z = own
