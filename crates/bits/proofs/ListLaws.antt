@@ -7,7 +7,7 @@ use Prim.Native.Nat.{ℕ, zero, suc, _+_, _*_, _≤_, _<_}
 use native.Mathlib.Nat.{add-zero, zero-add, add-suc, suc-add, le-of-suc-le-suc, eq-or-lt-of-le, not-suc-le-zero, mul-suc}
 use native.Mathlib.Numerals.{add-one}
 use native.Mathlib.Omega.{arith}
-use lib.ListN.{length, getD, set, take}
+use lib.ListN.{length, getD, set, take, length-set}
 use lib.Seq.{ext-getD, getD-set-same, getD-set-other, take-at}
 use Rattle.bits.specs.Lists.{wordsFrom, wordsOf, sumTo}
 
@@ -69,22 +69,28 @@ pub sum-next : (f : ℕ → ℕ) (n : ℕ) → sumTo f (n + 1) ≡ sumTo f n + f
 unfolding sumTo
 sum-next f n = ap (sumTo f) (add-one n)
 
--- the first i words of a list are those that a rule gives
-pub record Filled (f : ℕ → ℕ) (list : List ℕ) (i : ℕ) : Type 0 where
+-- a list of n words of which the first i are those that a rule gives
+pub record Filled (f : ℕ → ℕ) (n : ℕ) (list : List ℕ) (i : ℕ) : Type 0 where
+  pub size : length list ≡ n
+  pub low : i ≤ n
   pub each : (j : ℕ) → j < i → getD list j 0 ≡ f j
 
-pub filled-none : (f : ℕ → ℕ) (list : List ℕ) → Filled f list 0
-filled-none f list = record { each = λ j h. absurd (not-suc-le-zero h) }
+pub filled-none : (f : ℕ → ℕ) (n : ℕ) (list : List ℕ) → length list ≡ n → Filled f n list 0
+filled-none f n list e = record { size = e; low = omega arith; each = λ j h. absurd (not-suc-le-zero h) }
 
-pub filled-next : (f : ℕ → ℕ) (list : List ℕ) (i v : ℕ) → Filled f list i → i < length list → v ≡ f i → Filled f (set list i v) (i + 1)
-filled-next f list i v t h e = record { each = λ j k. go j (eq-or-lt-of-le (let l : j ≤ i = omega arith in l)) }
+pub filled-next : {f : ℕ → ℕ} {n : ℕ} {list : List ℕ} {i v : ℕ} → Filled f n list i → i < length list → v ≡ f i → Filled f n (set list i v) (i + 1)
+filled-next {f} {n} {list} {i} {v} t h e = record {
+  size = length-set list i v ∙ t .size;
+  low = let s = t .size in omega arith;
+  each = λ j k. go j (eq-or-lt-of-le (let l : j ≤ i = omega arith in l));
+}
   where
     go : (j : ℕ) → (j ≡ i) ⊎ (j < i) → getD (set list i v) j 0 ≡ f j
     go j (inl q) = ap (λ (k : ℕ). getD (set list i v) k 0) q ∙ getD-set-same list i v 0 h ∙ e ∙ ap f (sym q)
     go j (inr l) = getD-set-other list i j v 0 (λ q. omega arith) ∙ t .each j l
 
-pub filled-all : (f : ℕ → ℕ) (n : ℕ) (list : List ℕ) → length list ≡ n → Filled f list n → list ≡ wordsOf f n
-filled-all f n list e t = words-only f n list e (t .each)
+pub filled-all : {f : ℕ → ℕ} {n : ℕ} {list : List ℕ} {i : ℕ} → Filled f n list i → length list ≤ i → list ≡ wordsOf f n
+filled-all {f} {n} {list} {i} t h = let s = t .size in words-only f n list s (λ j k. t .each j (omega arith))
 
 -- a list whose front has n words, when the front is lent
 module _ (front rest : List ℕ) {n : ℕ} (e : length front ≡ n) where

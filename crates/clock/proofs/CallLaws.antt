@@ -1,7 +1,7 @@
 -- Laws of calls: the search for a word that is too wide, and what a call comes to by the answer of check and the lengths of its lists.
 -- Assumes nothing.
 use mathlib.Core.Path.{_≡_, sym, ap, _∙_}
-use mathlib.Core.Bool.{Bool, true, false, cond, _&&_}
+use mathlib.Core.Bool.{Bool, true, false, cond}
 use mathlib.Core.List.{List}
 use Prim.Native.Nat.{ℕ, suc, _+_, _-_, _≤_, _<_}
 use native.Mathlib.Omega.{arith}
@@ -13,8 +13,8 @@ use Rattle.netlist.specs.declared.refusal.Refusal.the-variants.{BadList, WideWo
 use Rattle.netlist.proofs.Tests.{and-first, and-second}
 use Rattle.rules.specs.declared.check.Checked.{Checked}
 use Rattle.rules.specs.declared.check.Checked.the-variants.{Accepted, Refused as refused}
-use Rattle.clock.specs.Call.{answerAfter, isWide, wideFrom, leaves, startAnswer, startCall, cycleAnswer, cycleWith, cycleCall}
-use Rattle.clock.specs.Values.{unchanged, valuesOf, nextOf, startOf}
+use Rattle.clock.specs.Call.{answerAfter, isWide, wideFrom, leaves, bothHave, startAnswer, startCall, cycleAnswer, cycleWith, cycleCall}
+use Rattle.clock.specs.Values.{plainValues, plainNext, startOf}
 use Rattle.clock.specs.declared.cycle.Clocked.{Clocked}
 use Rattle.clock.specs.declared.cycle.Clocked.the-variants.{Done, Refused}
 
@@ -56,7 +56,7 @@ module _ (fit : ℕ → Bool) (rest : Clocked) where
   answer-fit e g = ap after e ∙ ap (λ (t : Bool). cond t rest (Refused BadList 0)) g
 
 -- lists with room for n records
-pub both-fit : (board next n : ℕ) → (eqb board n && eqb next n) ≡ true → (board ≡ n) × (next ≡ n)
+pub both-fit : (board next n : ℕ) → bothHave board next n ≡ true → (board ≡ n) × (next ≡ n)
 both-fit board next n e = (eqb-true board n (and-first _ _ e), eqb-true next n (and-second (eqb board n) _ e))
 
 -- ---- what a call comes to, by its answer
@@ -69,13 +69,13 @@ module _ (file board : List ℕ) {a : Clocked} where
 
   pub cycle-ends : (next : List ℕ) → cycleAnswer file board next ≡ a
       → (a ≡ cycleCall file board next .answer)
-      × ((leaves a (valuesOf (designOf file) unchanged board) board ≡ cycleCall file board next .board)
-      × (leaves a (nextOf (designOf file) (valuesOf (designOf file) unchanged board)) next ≡ cycleCall file board next .next))
+      × ((leaves a (plainValues (designOf file) board) board ≡ cycleCall file board next .board)
+      × (leaves a (plainNext (designOf file) board) next ≡ cycleCall file board next .next))
   unfolding cycleWith
   cycle-ends next e = (
     sym e,
     (
-      ap (λ (c : Clocked). leaves c (valuesOf (designOf file) unchanged board) board) (sym e),
-      ap (λ (c : Clocked). leaves c (nextOf (designOf file) (valuesOf (designOf file) unchanged board)) next) (sym e),
+      ap (λ (c : Clocked). leaves c (plainValues (designOf file) board) board) (sym e),
+      ap (λ (c : Clocked). leaves c (plainNext (designOf file) board) next) (sym e),
     ),
   )

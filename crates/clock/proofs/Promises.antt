@@ -16,7 +16,7 @@ use Rattle.rules.specs.declared.check.Checked.{Checked}
 use Rattle.rules.specs.declared.check.Checked.the-variants.{Accepted, Refused as refused}
 use Rattle.rules.proofs.Acceptance.{accepted}
 use Rattle.clock.specs.Call.{answerAfter, isWide, leaves, startCall, cycleWith, cycleCall}
-use Rattle.clock.specs.Values.{unchanged, valueAt, valuesOf, nextWord, nextOf, startWord, startOf}
+use Rattle.clock.specs.Values.{unchanged, valueAt, plainValues, plainNext, nextWord, startWord, startOf}
 use Rattle.clock.specs.declared.cycle.Clocked.{Clocked}
 use Rattle.clock.specs.declared.cycle.Clocked.the-variants.{Done, Refused}
 use Rattle.clock.proofs.CallLaws.{both-fit}
@@ -65,13 +65,13 @@ start-goes-on file board e i h =
 -- ---- cycle
 
 module _ (file board next : List ℕ) (e : cycleCall file board next .answer ≡ Done) where
-  values-left : cycleCall file board next .board ≡ valuesOf (designOf file) unchanged board
+  values-left : cycleCall file board next .board ≡ plainValues (designOf file) board
   unfolding cycleWith
-  values-left = ap (λ (c : Clocked). leaves c (valuesOf (designOf file) unchanged board) board) e
+  values-left = ap (λ (c : Clocked). leaves c (plainValues (designOf file) board) board) e
 
-  next-left : cycleCall file board next .next ≡ nextOf (designOf file) (valuesOf (designOf file) unchanged board)
+  next-left : cycleCall file board next .next ≡ plainNext (designOf file) board
   unfolding cycleWith
-  next-left = ap (λ (c : Clocked). leaves c (nextOf (designOf file) (valuesOf (designOf file) unchanged board)) next) e
+  next-left = ap (λ (c : Clocked). leaves c (plainNext (designOf file) board) next) e
 
   sound : Sound (designOf file)
   unfolding cycleWith
@@ -95,7 +95,7 @@ module _ (file board next : List ℕ) (e : cycleCall file board next .answer ≡
   unfolding designOf
   loaded i h =
       ap (λ (l : List ℕ). wordAt l i) next-left
-      ∙ next-word (designOf file) (valuesOf (designOf file) unchanged board) i h
+      ∙ next-word (designOf file) (plainValues (designOf file) board) i h
       ∙ ap (λ (l : List ℕ). nextWord l (roleAt (designOf file) i)) (sym values-left)
 
   -- the next cycle can go on from there: 12 applies to no record of the next list
@@ -103,7 +103,7 @@ module _ (file board next : List ℕ) (e : cycleCall file board next .answer ≡
   unfolding designOf
   goes-on i h =
       ap (λ (l : List ℕ). isWide (designOf file) l i) next-left
-      ∙ next-passes (designOf file) sound i h (valuesOf (designOf file) unchanged board)
+      ∙ next-passes (designOf file) sound i h (plainValues (designOf file) board)
       (λ j g. values-narrow (designOf file) sound unchanged board board-length j g (λ v l. l))
 
 -- "No lent word or byte changes."
@@ -111,6 +111,6 @@ pub cycle-refused : (file board next : List ℕ) (r : Refusal) (i : ℕ) → cyc
     → (cycleCall file board next .board ≡ board) × (cycleCall file board next .next ≡ next)
 unfolding cycleWith
 cycle-refused file board next r i e = (
-  ap (λ (c : Clocked). leaves c (valuesOf (designOf file) unchanged board) board) e,
-  ap (λ (c : Clocked). leaves c (nextOf (designOf file) (valuesOf (designOf file) unchanged board)) next) e,
+  ap (λ (c : Clocked). leaves c (plainValues (designOf file) board) board) e,
+  ap (λ (c : Clocked). leaves c (plainNext (designOf file) board) next) e,
 )

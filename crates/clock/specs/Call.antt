@@ -62,9 +62,12 @@ pub record CycleCall : Type 0 where
   pub board : List ℕ
   pub next : List ℕ
 
+-- Whether lists of these lengths both have n places.
+abbrev pub bothHave : ℕ → ℕ → ℕ → Bool
+bothHave board next n = eqb board n && eqb next n
+
 abbrev pub cycleAnswer : List ℕ → List ℕ → List ℕ → Clocked
-cycleAnswer file board next =
-    answerAfter (checkOf file) (λ n. eqb (length board) n && eqb (length next) n) (wordsAnswer (designOf file) board)
+cycleAnswer file board next = answerAfter (checkOf file) (bothHave (length board) (length next)) (wordsAnswer (designOf file) board)
 
 -- A cycle in which each value may be changed right after it is worked out, and the plain one.
 unfoldable pub cycleWith : (ℕ → ℕ → ℕ) → List ℕ → List ℕ → List ℕ → CycleCall

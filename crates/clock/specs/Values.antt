@@ -40,6 +40,13 @@ nextWord values Gate = 0
 unfoldable pub nextOf : Design → List ℕ → List ℕ
 nextOf d values = wordsOf (λ i. nextWord values (roleAt d i)) (d .count)
 
+-- The values and the next states of a plain cycle.
+abbrev pub plainValues : Design → List ℕ → List ℕ
+plainValues d board = valuesOf d unchanged board
+
+abbrev pub plainNext : Design → List ℕ → List ℕ
+plainNext d board = nextOf d (plainValues d board)
+
 -- "Start writes the reset states at the registers and 0 elsewhere in a board list."
 abbrev pub startWord : Role → ℕ
 startWord Input = 0

@@ -2,19 +2,17 @@
 // Both ask nothing of their callers; the functions below them ask for an accepted file and lists of n words.
 use crate::load::load;
 use crate::reset::reset;
-use crate::values::is_wide;
 use crate::values::work_out;
+use crate::words::is_wide;
 use netlist::refusal::Refusal;
 use rules::check::Checked;
 use rules::check::check;
-ghost use mathlib.Core.Bool.{_&&_};
 ghost use mathlib.Core.Path.{_≡_};
-ghost use lib.Dec.{eqb};
 ghost use lib.ListN.{length};
 ghost use Rattle.netlist.specs.Layout.{designOf, countOf};
 ghost use Rattle.rules.specs.Sound.{Acceptance};
-ghost use Rattle.clock.specs.Call.{wordsAnswer, leaves, startCall, cycleCall};
-ghost use Rattle.clock.specs.Values.{unchanged, valuesOf, nextOf};
+ghost use Rattle.clock.specs.Call.{bothHave, wordsAnswer, leaves, startCall, cycleCall};
+ghost use Rattle.clock.specs.Values.{plainValues, plainNext};
 
 // The answer of a call that clocks: done, or the refusal and its record.
 pub enum Clocked {
@@ -41,8 +39,8 @@ fn check_words(file: &[u8], board: &[u64]) -> Clocked
 pub fn run(file: &[u8], board: &mut [u64], next: &mut [u64]) -> Clocked
     requires { ⌜ Acceptance (now file) (countOf (now file)) × (length (now board) ≡ countOf (now file)) × (length (now next) ≡ countOf (now file)) ⌝ }
     ensures answer { λ r. ⌜ r ≡ wordsAnswer (designOf (now (file .entry))) (now (board .entry)) ⌝ }
-    ensures board { λ r. ⌜ now (board .exit) ≡ leaves r (valuesOf (designOf (now (file .entry))) unchanged (now (board .entry))) (now (board .entry)) ⌝ }
-    ensures next { λ r. ⌜ now (next .exit) ≡ leaves r (nextOf (designOf (now (file .entry))) (valuesOf (designOf (now (file .entry))) unchanged (now (board .entry)))) (now (next .entry)) ⌝ }
+    ensures board { λ r. ⌜ now (board .exit) ≡ leaves r (plainValues (designOf (now (file .entry))) (now (board .entry))) (now (board .entry)) ⌝ }
+    ensures next { λ r. ⌜ now (next .exit) ≡ leaves r (plainNext (designOf (now (file .entry))) (now (board .entry))) (now (next .entry)) ⌝ }
 {
     match check_words(file, board) {
         Clocked::Done => {
@@ -73,7 +71,7 @@ pub fn start(file: &[u8], board: &mut [u64]) -> Clocked
 
 // Whether a board list and a next list both have n places.
 pub fn both_have(board: usize, next: usize, n: usize) -> bool
-    ensures { λ r. ⌜ r ≡ (eqb board n && eqb next n) ⌝ }
+    ensures { λ r. ⌜ r ≡ bothHave board next n ⌝ }
 {
     board == n && next == n
 }

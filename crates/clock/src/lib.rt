@@ -4,3 +4,4 @@ pub mod cycle;
 pub mod load;
 pub mod reset;
 pub mod values;
+pub mod words;

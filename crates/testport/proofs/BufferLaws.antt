@@ -15,7 +15,7 @@ use Rattle.netlist.specs.declared.refusal.Refusal.the-variants.{WideWord}
 use Rattle.rules.specs.Check.{checkOf}
 use Rattle.rules.specs.Sound.{Sound}
 use Rattle.clock.specs.Call.{answerAfter, isWide, wideFrom, wordsAnswer, leaves}
-use Rattle.clock.specs.Values.{unchanged, valuesOf, nextOf, startOf}
+use Rattle.clock.specs.Values.{unchanged, plainValues, plainNext, nextOf, startOf}
 use Rattle.clock.specs.declared.cycle.Clocked.{Clocked}
 use Rattle.clock.specs.declared.cycle.Clocked.the-variants.{Done, Refused}
 use Rattle.clock.proofs.ValueLaws.{length-values}
@@ -54,13 +54,13 @@ words-length file board e = ap length e ∙ length-words _ _
 
 -- what a cycle leaves in them
 module _ (file board : List ℕ) {words : List ℕ} {c : Clocked} (e : words ≡ bufferWords file board) (q : c ≡ Done) where
-  pub values-left : {list : List ℕ} → list ≡ leaves c (valuesOf (designOf file) unchanged words) words → list ≡ bufferValues file board
-  values-left h = h ∙ ap (λ (a : Clocked). leaves a (valuesOf (designOf file) unchanged words) words) q ∙ ap (valuesOf (designOf file) unchanged) e
+  pub values-left : {list : List ℕ} → list ≡ leaves c (plainValues (designOf file) words) words → list ≡ bufferValues file board
+  values-left h = h ∙ ap (λ (a : Clocked). leaves a (plainValues (designOf file) words) words) q ∙ ap (plainValues (designOf file)) e
 
-  pub next-left : {list : List ℕ} (old : List ℕ) → list ≡ leaves c (nextOf (designOf file) (valuesOf (designOf file) unchanged words)) old → list ≡ bufferNext file board
+  pub next-left : {list : List ℕ} (old : List ℕ) → list ≡ leaves c (plainNext (designOf file) words) old → list ≡ bufferNext file board
   next-left old h =
-      h ∙ ap (λ (a : Clocked). leaves a (nextOf (designOf file) (valuesOf (designOf file) unchanged words)) old) q
-      ∙ ap (λ (l : List ℕ). nextOf (designOf file) (valuesOf (designOf file) unchanged l)) e
+      h ∙ ap (λ (a : Clocked). leaves a (plainNext (designOf file) words) old) q
+      ∙ ap (plainNext (designOf file)) e
 
 pub values-length : (file board : List ℕ) {list : List ℕ} → list ≡ bufferValues file board → length list ≡ countOf file
 unfolding wordsIn

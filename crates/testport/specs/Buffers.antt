@@ -1,6 +1,6 @@
 -- What a call of the test port answers, and what it does with the byte lists lent to it, refused calls included.
 -- Assumes nothing.
-use mathlib.Core.Bool.{Bool, _&&_}
+use mathlib.Core.Bool.{Bool}
 use mathlib.Core.List.{List}
 use Prim.Native.Nat.{ℕ, _*_, _^_, _<_}
 use lib.Dec.{eqb}
@@ -11,8 +11,8 @@ use Rattle.netlist.specs.Refusals.{numberOf}
 use mathlib.Core.Path.{_≡_}
 use Rattle.rules.specs.Check.{checkOf}
 use Rattle.rules.specs.Sound.{Acceptance}
-use Rattle.clock.specs.Call.{answerAfter, wordsAnswer, leaves, StartCall, CycleCall}
-use Rattle.clock.specs.Values.{unchanged, valuesOf, nextOf, startOf}
+use Rattle.clock.specs.Call.{answerAfter, bothHave, wordsAnswer, leaves, StartCall, CycleCall}
+use Rattle.clock.specs.Values.{plainValues, plainNext, startOf}
 use Rattle.clock.specs.declared.cycle.Clocked.{Clocked}
 use Rattle.clock.specs.declared.cycle.Clocked.the-variants.{Done, Refused}
 use Rattle.desktop.specs.Answer.{refusedAnswer}
@@ -38,14 +38,14 @@ abbrev pub bufferWords : List ℕ → List ℕ → List ℕ
 bufferWords file board = wordsIn board (countOf file)
 
 abbrev pub bufferValues : List ℕ → List ℕ → List ℕ
-bufferValues file board = valuesOf (designOf file) unchanged (bufferWords file board)
+bufferValues file board = plainValues (designOf file) (bufferWords file board)
 
 abbrev pub bufferNext : List ℕ → List ℕ → List ℕ
-bufferNext file board = nextOf (designOf file) (bufferValues file board)
+bufferNext file board = plainNext (designOf file) (bufferWords file board)
 
 -- A cycle on lists of 8 × n bytes.
 abbrev pub buffersFit : List ℕ → List ℕ → ℕ → Bool
-buffersFit board next n = eqb (length board) (8 * n) && eqb (length next) (8 * n)
+buffersFit board next n = bothHave (length board) (length next) (8 * n)
 
 unfoldable pub cycleBuffers : List ℕ → List ℕ → List ℕ → CycleCall
 cycleBuffers file board next =

@@ -43,7 +43,8 @@ returns c = let if1 = c .before .before .if1 in
     let args = c .before .before .before .before .before .before .before .before .before .args in
     let board = now (args .board) in
     let b = start-ends (now (args .file)) board
-    (answer-bad-list (λ n. eqb (length board) (8 * n)) Done (sym (check .ensures) ∙ n .given .1) (ne-eqb (length board) (8 * n .given .0 .0) (λ q. let t = if1 .taken in omega arith))) in
+    (answer-bad-list (λ n. eqb (length board) (8 * n)) Done (sym (check .ensures) ∙ n .given .1)
+    (ne-eqb (length board) (8 * n .given .0 .0) (λ q. let t = if1 .taken in omega arith))) in
     (c .refused .ensures ∙ ap (λ (n : ℕ). refusedAnswer n 0) (c .before .number .ensures .0) ∙ ap clockedAnswer (b .0), b .1)
 
 reset-buffer-requires : tie.Need-reset-buffer-requires
@@ -77,7 +78,8 @@ returns-2 c = let reset-buffer = c .before .before .reset-buffer in
     let args = start .args in
     let board = now (args .board) in
     let b = start-ends (now (args .file)) board
-    (answer-fit (λ n. eqb (length board) (8 * n)) Done (sym (check .ensures) ∙ n .given .1) (eq-eqb (length board) (8 * n .given .0 .0) (let t = if1 .left in omega arith))) in
+    (answer-fit (λ n. eqb (length board) (8 * n)) Done (sym (check .ensures) ∙ n .given .1)
+    (eq-eqb (length board) (8 * n .given .0 .0) (let t = if1 .left in omega arith))) in
     (ap clockedAnswer (b .0), reset-buffer .ensures ∙ b .1)
 
 returns-3 : tie.Need-returns-3

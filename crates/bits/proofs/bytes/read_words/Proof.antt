@@ -1,38 +1,35 @@
 -- `bits::bytes::read_words` meets its contract: after i turns the first i words are read.
 -- Assumes nothing.
-use mathlib.Core.Path.{_≡_, refl, subst, _∙_}
-use Prim.Native.Nat.{ℕ, _*_, _-_, _≤_}
+use mathlib.Core.Path.{refl}
+use Prim.Native.Nat.{_*_, _-_}
 use native.Mathlib.Omega.{arith}
-use lib.ListN.{length, length-set}
-use denote.Ref.{now}
+use lib.ListN.{length}
 use Rattle.bits.specs.Bytes.{numberAt, wordsIn}
 use Rattle.bits.proofs.ListLaws.{Filled, filled-none, filled-next, filled-all}
 use Rattle.bits.proofs.bytes.read_words.Statement.{statement}
 use Rattle.bits.proofs.bytes.read_words.Tie as tie
 
 abbrev Inv-loop : tie.InvT-loop
-Inv-loop words₀ s i₀ words i =
-    (i ≤ length words₀) × (length words ≡ length words₀) × Filled (λ j. numberAt s (8 * j) 8) words i
+Inv-loop words₀ s i₀ words i = Filled (λ j. numberAt s (8 * j) 8) (length words₀) words i
 
 abbrev μ-loop : tie.MeasureT-loop
-μ-loop words₀ s i₀ words i =
-    length words₀ - i
+μ-loop words₀ s i₀ words i = length words₀ - i
 
 loop-holds : tie.Need-loop-holds Inv-loop μ-loop
-loop-holds c = (omega arith, refl, filled-none _ _)
+loop-holds c = filled-none _ _ _ refl
 
 mul-read-64 : tie.Need-mul-read-64 Inv-loop μ-loop
 mul-read-64 c = let pre = c .before .before .before .before .pre in
-    let p = pre in let e = c .before .loop .inv .1 in let t = c .loop-test .taken in omega arith
+    let e = c .before .loop .inv .size in let t = c .loop-test .taken in omega arith
 
 read-64-requires : tie.Need-read-64-requires Inv-loop μ-loop
 read-64-requires c κs = let pre = c .before .before .before .before .pre in
-    let p = pre in let e = c .before .loop .inv .1 in let t = c .loop-test .taken in omega arith
+    let e = c .before .loop .inv .size in let t = c .loop-test .taken in omega arith
 
 mul-words : tie.Need-mul-words Inv-loop μ-loop
 mul-words c = let loop = c .before .before .loop in
     let pre = c .before .before .before .before .before .pre in
-    let p = pre in let e = loop .inv .1 in let t = c .before .loop-test .taken in omega arith
+    let e = loop .inv .size in let t = c .before .loop-test .taken in omega arith
 
 slice-write-words : tie.Need-slice-write-words Inv-loop μ-loop
 slice-write-words c = c .before .loop-test .taken
@@ -40,31 +37,20 @@ slice-write-words c = c .before .loop-test .taken
 add-i : tie.Need-add-i Inv-loop μ-loop
 add-i c = let loop = c .before .before .loop in
     let pre = c .before .before .before .before .before .pre in
-    let p = pre in let e = loop .inv .1 in let t = c .before .loop-test .taken in omega arith
+    let e = loop .inv .size in let t = c .before .loop-test .taken in omega arith
 
 loop-less : tie.Need-loop-less Inv-loop μ-loop
-loop-less c = let e = c .before .before .loop .inv .1 in let t = c .before .loop-test .taken in omega arith
+loop-less c = let e = c .before .before .loop .inv .size in let t = c .before .loop-test .taken in omega arith
 
 loop-again : tie.Need-loop-again Inv-loop μ-loop
-loop-again c = let loop = c .before .before .loop in
-    let args = c .before .before .before .before .before .args in
-    let e = loop .inv .1 in let t = c .before .loop-test .taken in (
-      omega arith,
-      length-set (loop .words) (loop .i) (c .read-64 .result) ∙ e,
-      filled-next (λ j. numberAt (now (args .s)) (8 * j) 8) (loop .words) (loop .i) (c .read-64 .result) (loop .inv .2) t (c .read-64 .ensures),
-    )
+loop-again c = filled-next (c .before .before .loop .inv) (c .before .loop-test .taken) (c .read-64 .ensures)
 
 same-length : tie.Need-same-length Inv-loop μ-loop
-same-length c = c .before .loop .inv .1
+same-length c = c .before .loop .inv .size
 
 returns : tie.Need-returns Inv-loop μ-loop
 unfolding wordsIn
-returns c = let args = c .before .before .before .before .args in
-    let e = c .before .loop .inv .1 in let t = c .loop-test .left in let g = c .before .loop .inv .0 in
-    let f : ℕ → ℕ = λ j. numberAt (now (args .s)) (8 * j) 8 in
-    filled-all f _ (c .before .loop .words) e
-    (subst (λ (n : ℕ). Filled f (c .before .loop .words) n) (let q : c .before .loop .i ≡ length (now (args .words)) = omega arith in q)
-    (c .before .loop .inv .2))
+returns c = filled-all (c .before .loop .inv) (c .loop-test .left)
 
 pub read-words-spec : {M : Type 1} → statement M
 read-words-spec =

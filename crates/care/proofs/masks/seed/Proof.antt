@@ -1,10 +1,8 @@
 -- `care::masks::seed` meets its contract: after i turns the first i words are the seed's.
 -- Assumes nothing.
-use mathlib.Core.Path.{_≡_, sym, subst, _∙_}
-use Prim.Native.Nat.{ℕ, _-_, _≤_}
+use mathlib.Core.Path.{sym, _∙_}
+use Prim.Native.Nat.{_-_}
 use native.Mathlib.Omega.{arith}
-use lib.ListN.{length, length-set}
-use denote.Ref.{now}
 use Rattle.bits.proofs.ListLaws.{Filled, filled-none, filled-next, filled-all}
 use Rattle.netlist.specs.Layout.{designOf, countOf}
 use Rattle.care.specs.Least.{outputSeed}
@@ -12,53 +10,39 @@ use Rattle.care.proofs.masks.seed.Statement.{statement}
 use Rattle.care.proofs.masks.seed.Tie as tie
 
 abbrev Inv-loop : tie.InvT-loop
-Inv-loop file list₀ i₀ list i = (i ≤ countOf file) × (length list ≡ countOf file) × Filled (outputSeed (designOf file)) list i
+Inv-loop file list₀ i₀ list i = Filled (outputSeed (designOf file)) (countOf file) list i
 
 abbrev μ-loop : tie.MeasureT-loop
 μ-loop file list₀ i₀ list i = countOf file - i
 
 loop-holds : tie.Need-loop-holds Inv-loop μ-loop
-loop-holds c = (omega arith, c .before .before .pre .1, filled-none _ _)
+loop-holds c = filled-none _ _ _ (c .before .before .pre .1)
 
 seed-at-requires : tie.Need-seed-at-requires Inv-loop μ-loop
-seed-at-requires c κs = (c .before .before .before .before .pre .0, let e = c .before .loop .inv .1 in let t = c .loop-test .taken in omega arith)
+seed-at-requires c κs = (c .before .before .before .before .pre .0, let e = c .before .loop .inv .size in let t = c .loop-test .taken in omega arith)
 
 mul-list : tie.Need-mul-list Inv-loop μ-loop
 unfolding designOf
-mul-list c = let f = c .before .before .before .before .before .pre .0 .sound .few in let e = c .before .before .loop .inv .1 in let t = c .before .loop-test .taken in omega arith
+mul-list c = let f = c .before .before .before .before .before .pre .0 .sound .few in let e = c .before .before .loop .inv .size in let t = c .before .loop-test .taken in omega arith
 
 slice-write-list : tie.Need-slice-write-list Inv-loop μ-loop
 slice-write-list c = c .before .loop-test .taken
 
 add-i : tie.Need-add-i Inv-loop μ-loop
 unfolding designOf
-add-i c = let f = c .before .before .before .before .before .pre .0 .sound .few in let e = c .before .before .loop .inv .0 in omega arith
+add-i c = let f = c .before .before .before .before .before .pre .0 .sound .few in let e = c .before .before .loop .inv .low in omega arith
 
 loop-less : tie.Need-loop-less Inv-loop μ-loop
-loop-less c = let e = c .before .before .loop .inv .1 in let t = c .before .loop-test .taken in omega arith
+loop-less c = let e = c .before .before .loop .inv .size in let t = c .before .loop-test .taken in omega arith
 
 loop-again : tie.Need-loop-again Inv-loop μ-loop
-loop-again c = let loop = c .before .before .loop in
-    let e = loop .inv .1 in
-    let t = c .before .loop-test .taken in (
-      omega arith,
-      length-set (loop .list) (loop .i) (c .seed-at .result) ∙ e,
-      filled-next (outputSeed (designOf (now (c .before .before .before .before .before .args .file)))) (loop .list) (loop .i) (c .seed-at .result) (loop .inv .2) t
-          (c .seed-at .ensures),
-    )
+loop-again c = filled-next (c .before .before .loop .inv) (c .before .loop-test .taken) (c .seed-at .ensures)
 
 same-length : tie.Need-same-length Inv-loop μ-loop
-same-length c = c .before .loop .inv .1 ∙ sym (c .before .before .before .before .pre .1)
+same-length c = c .before .loop .inv .size ∙ sym (c .before .before .before .before .pre .1)
 
 returns : tie.Need-returns Inv-loop μ-loop
-returns c = let args = c .before .before .before .before .args in
-    let file = now (args .file) in
-    let loop = c .before .loop in
-    let e = loop .inv .1 in
-    let t = c .loop-test .left in
-    let g = loop .inv .0 in
-    filled-all (outputSeed (designOf file)) _ (loop .list) e
-    (subst (λ (n : ℕ). Filled (outputSeed (designOf file)) (loop .list) n) (let q : loop .i ≡ countOf file = omega arith in q) (loop .inv .2))
+returns c = filled-all (c .before .loop .inv) (c .loop-test .left)
 
 pub seed-spec : {M : Type 1} → statement M
 seed-spec =

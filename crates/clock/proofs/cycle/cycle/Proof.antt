@@ -1,16 +1,14 @@
 -- `clock::cycle::cycle` meets its contract: the file is refused, a list is refused, or the cycle is run.
 -- Assumes nothing.
 use mathlib.Core.Path.{sym, subst, _∙_}
-use mathlib.Core.Bool.{_&&_}
 use lib.ListN.{length}
-use lib.Dec.{eqb}
 use borrow.Author.Tests.{not-true, not-false}
 use borrow.Author.Needs.{needs}
 use denote.Ref.{now}
 use Rattle.netlist.specs.Layout.{designOf}
 use Rattle.rules.specs.Sound.{Acceptance}
 use Rattle.rules.proofs.Acceptance.{accepted}
-use Rattle.clock.specs.Call.{wordsAnswer}
+use Rattle.clock.specs.Call.{bothHave, wordsAnswer}
 use Rattle.clock.proofs.CallLaws.{answer-refused, answer-bad-list, answer-fit, cycle-ends, both-fit}
 use Rattle.clock.proofs.cycle.cycle.Statement.{statement}
 use Rattle.clock.proofs.cycle.cycle.Tie as tie
@@ -32,7 +30,7 @@ returns c = let n = c .before .before .before .n in
     let board = now (args .board) in
     let next = now (args .next) in
     cycle-ends file board next
-    (answer-bad-list (λ n. eqb (length board) n && eqb (length next) n) (wordsAnswer (designOf file) board) (sym (check .ensures) ∙ n .given .1)
+    (answer-bad-list (bothHave (length board) (length next)) (wordsAnswer (designOf file) board) (sym (check .ensures) ∙ n .given .1)
     (sym (c .before .both-have .ensures) ∙ not-true _ (c .if1 .taken)))
 
 run-requires : tie.Need-run-requires
@@ -71,7 +69,7 @@ returns-2 c = let run = c .before .before .before .before .run in
     let board = now (args .board) in
     let next = now (args .next) in
     let b = cycle-ends file board next
-    (answer-fit (λ n. eqb (length board) n && eqb (length next) n) (wordsAnswer (designOf file) board) (sym (check .ensures) ∙ n .given .1)
+    (answer-fit (bothHave (length board) (length next)) (wordsAnswer (designOf file) board) (sym (check .ensures) ∙ n .given .1)
     (sym (both-have .ensures) ∙ not-false _ (if1 .left)) ∙ sym (run .ensures .0)) in
     (b .0, (run .ensures .1 .0 ∙ b .1 .0, run .ensures .1 .1 ∙ b .1 .1))
 
@@ -82,7 +80,7 @@ returns-3 c = let check = c .before .before .before .check in
     let board = now (args .board) in
     let next = now (args .next) in
     cycle-ends file board next
-    (answer-refused (λ n. eqb (length board) n && eqb (length next) n) (wordsAnswer (designOf file) board)
+    (answer-refused (bothHave (length board) (length next)) (wordsAnswer (designOf file) board)
     (sym (check .ensures) ∙ c .before .r .given .1))
 
 pub cycle-spec : {M : Type 1} → statement M

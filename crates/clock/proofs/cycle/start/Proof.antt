@@ -26,7 +26,8 @@ returns c = let n = c .before .before .n in
     let args = c .before .before .before .before .before .before .before .args in
     let board = now (args .board) in
     start-ends (now (args .file)) board
-    (answer-bad-list (λ n. eqb (length board) n) Done (sym (check .ensures) ∙ n .given .1) (ne-eqb (length board) (n .given .0 .0) (λ q. let t = c .if1 .taken in omega arith)))
+    (answer-bad-list (λ n. eqb (length board) n) Done (sym (check .ensures) ∙ n .given .1)
+    (ne-eqb (length board) (n .given .0 .0) (λ q. let t = c .if1 .taken in omega arith)))
 
 reset-requires : tie.Need-reset-requires
 reset-requires c κs = let n = c .before .before .before .n in
@@ -51,7 +52,8 @@ returns-2 c = let reset = c .before .before .reset in
     let args = start .args in
     let board = now (args .board) in
     let b = start-ends (now (args .file)) board
-    (answer-fit (λ n. eqb (length board) n) Done (sym (check .ensures) ∙ n .given .1) (eq-eqb (length board) (n .given .0 .0) (let t = if1 .left in omega arith))) in
+    (answer-fit (λ n. eqb (length board) n) Done (sym (check .ensures) ∙ n .given .1)
+    (eq-eqb (length board) (n .given .0 .0) (let t = if1 .left in omega arith))) in
     (b .0, reset .ensures ∙ b .1)
 
 returns-3 : tie.Need-returns-3

@@ -1,4 +1,4 @@
--- `clock::values::is_wide` meets its contract: the record's role, word and width are those of the design and of the board.
+-- `clock::words::is_wide` meets its contract: the record's role, word and width are those of the design and of the board.
 -- Assumes nothing.
 use mathlib.Core.Path.{ap, _∙_}
 use native.Mathlib.Omega.{arith}
@@ -9,8 +9,8 @@ use Rattle.netlist.specs.declared.record.Uses.{Uses}
 use Rattle.rules.specs.Check.{roleAt}
 use Rattle.rules.proofs.Acceptance.{holds-record}
 use Rattle.clock.specs.Call.{wordIsWide}
-use Rattle.clock.proofs.values.is_wide.Statement.{statement}
-use Rattle.clock.proofs.values.is_wide.Tie as tie
+use Rattle.clock.proofs.words.is_wide.Statement.{statement}
+use Rattle.clock.proofs.words.is_wide.Tie as tie
 
 uses-at-requires : tie.Need-uses-at-requires
 uses-at-requires c κs = let args = c .before .before .args in

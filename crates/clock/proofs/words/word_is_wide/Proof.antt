@@ -1,10 +1,10 @@
--- `clock::values::word_is_wide` meets its contract: a word is too wide if what lies above its width is not 0.
+-- `clock::words::word_is_wide` meets its contract: a word is too wide if what lies above its width is not 0.
 -- Assumes nothing.
 use mathlib.Core.Path.{ap}
 use mathlib.Core.Bool.{not}
 use Rattle.netlist.proofs.Tests.{short-test}
-use Rattle.clock.proofs.values.word_is_wide.Statement.{statement}
-use Rattle.clock.proofs.values.word_is_wide.Tie as tie
+use Rattle.clock.proofs.words.word_is_wide.Statement.{statement}
+use Rattle.clock.proofs.words.word_is_wide.Tie as tie
 
 enum-told : tie.Need-enum-told
 enum-told c = c .match .keys1
