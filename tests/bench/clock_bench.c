@@ -34,6 +34,8 @@ static const struct row rows[] = {
       { 64, 256, 1024, 2048 } },
     { "cycle, all kinds", library_cycle, cycle_in_c, clocked_with_mul,
       { 64, 256, 1024, 2048 } },
+    { "cycle, multipliers", library_cycle, cycle_in_c, multipliers,
+      { 64, 2048, 0, 0 } },
     { "start", library_start, start_in_c, clocked_with_mul,
       { 64, 256, 1024, 2048 } }
 };

@@ -152,3 +152,20 @@ void clocked_with_mul(struct workload *work, uint32_t count)
 {
     clocked_as(work, count, &clocked_with_mul_style);
 }
+
+/* The worst case of a product that is put together from sums: two inputs of
+   64 bits, and all other records but an output multiply them. */
+void multipliers(struct workload *work, uint32_t count)
+{
+    struct rng rng = rng_for(SEED, count);
+
+    begin(work, count);
+    netlist_clear(&net);
+    netlist_input(&net, 64);
+    netlist_input(&net, 64);
+    while (net.count < count - 1)
+        netlist_add(&net, KIND_MUL, 64, 0, 1, 0, 0);
+    netlist_output(&net, 2, width_mask(64));
+    add_file(work);
+    add_lists(work, &rng);
+}

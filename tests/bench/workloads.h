@@ -30,4 +30,7 @@ workload_maker chain;         /* registers that each read the next one */
 workload_maker clocked;
 workload_maker clocked_with_mul;
 
+/* One design that is nearly all multipliers of 64 bits, with such lists. */
+workload_maker multipliers;
+
 #endif
