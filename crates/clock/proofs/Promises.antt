@@ -49,11 +49,6 @@ pub started : (file board : List ℕ) → startCall file board .answer ≡ Done 
 unfolding startCall designOf
 started file board e i h = ap (λ (c : Clocked). wordAt (leaves c (startOf (designOf file)) board) i) e ∙ start-word (designOf file) i h
 
--- "No lent word or byte changes."
-pub start-refused : (file board : List ℕ) (r : Refusal) (i : ℕ) → startCall file board .answer ≡ Refused r i → startCall file board .board ≡ board
-unfolding startCall
-start-refused file board r i e = ap (λ (c : Clocked). leaves c (startOf (designOf file)) board) e
-
 -- and a cycle can go on from there: 12 applies to no record
 pub start-goes-on : (file board : List ℕ) → startCall file board .answer ≡ Done → (i : ℕ) → i < countOf file
     → isWide (designOf file) (startCall file board .board) i ≡ false
@@ -61,6 +56,11 @@ unfolding startCall designOf
 start-goes-on file board e i h =
     ap (λ (c : Clocked). isWide (designOf file) (leaves c (startOf (designOf file)) board) i) e
     ∙ start-passes (designOf file) (accepted file _ (passed _ _ _ e .checked) .sound) i h
+
+-- "No lent word or byte changes."
+pub start-refused : (file board : List ℕ) (r : Refusal) (i : ℕ) → startCall file board .answer ≡ Refused r i → startCall file board .board ≡ board
+unfolding startCall
+start-refused file board r i e = ap (λ (c : Clocked). leaves c (startOf (designOf file)) board) e
 
 -- ---- cycle
 

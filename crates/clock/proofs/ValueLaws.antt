@@ -64,10 +64,10 @@ module _ (d : Design) (change : ℕ → ℕ → ℕ) (board : List ℕ) where
   not-reached (suc i) j h = getD-set-other (valuesTo d change board i) i j _ 0 (λ q. omega arith) ∙ not-reached i j (omega arith)
 
   -- a place that is passed holds its value from then on
-  pub passed : (i j : ℕ) → j < i → i ≤ length board → wordAt (valuesTo d change board i) j ≡ change j (valueAt d (valuesTo d change board j) j)
+  pub reached : (i j : ℕ) → j < i → i ≤ length board → wordAt (valuesTo d change board i) j ≡ change j (valueAt d (valuesTo d change board j) j)
   unfolding valuesTo
-  passed zero j h l = absurd (not-suc-le-zero h)
-  passed (suc i) j h l = here-or-before (passed i j) (eq-or-lt-of-le (let g : j ≤ i = omega arith in g))
+  reached zero j h l = absurd (not-suc-le-zero h)
+  reached (suc i) j h l = here-or-before (reached i j) (eq-or-lt-of-le (let g : j ≤ i = omega arith in g))
     where
       list : List ℕ
       list = valuesTo d change board i
@@ -88,7 +88,7 @@ module _ (d : Design) (s : Sound d) (change : ℕ → ℕ → ℕ) (board : List
 
   value-at : wordAt values i ≡ change i (valueAt d (valuesTo d change board i) i)
   unfolding valuesOf
-  value-at = passed d change board (d .count) i h (omega arith)
+  value-at = reached d change board (d .count) i h (omega arith)
 
   -- each signal has the value that its record gives from the values of its operands, and at an input or register from the board's word
   pub value-defined : wordAt values i ≡ change i (valueAt d (set values i (wordAt board i)) i)
@@ -97,7 +97,7 @@ module _ (d : Design) (s : Sound d) (change : ℕ → ℕ → ℕ) (board : List
     where
       below : (j : ℕ) → j < i → wordAt (valuesTo d change board i) j ≡ wordAt (set values i (wordAt board i)) j
       below j g =
-          passed d change board i j g (omega arith) ∙ sym (passed d change board (d .count) j (omega arith) (omega arith))
+          reached d change board i j g (omega arith) ∙ sym (reached d change board (d .count) j (omega arith) (omega arith))
           ∙ sym (getD-set-other values i j (wordAt board i) 0 (λ q. omega arith))
 
       own : wordAt (valuesTo d change board i) i ≡ wordAt (set values i (wordAt board i)) i

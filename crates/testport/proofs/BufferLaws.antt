@@ -19,7 +19,8 @@ use Rattle.clock.specs.Values.{unchanged, plainValues, plainNext, nextOf, start
 use Rattle.clock.specs.declared.cycle.Clocked.{Clocked}
 use Rattle.clock.specs.declared.cycle.Clocked.the-variants.{Done, Refused}
 use Rattle.clock.proofs.ValueLaws.{length-values}
-use Rattle.testport.specs.Buffers.{LowRecord, startBuffer, bufferWords, bufferValues, bufferNext, buffersFit, cycleBuffers}
+use Rattle.testport.specs.Buffers.{startBuffer, bufferWords, bufferValues, bufferNext, buffersFit, cycleBuffers}
+use Rattle.testport.specs.Lent.{LowRecord}
 
 -- ---- what a call comes to, by its answer
 

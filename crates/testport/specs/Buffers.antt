@@ -2,15 +2,13 @@
 -- Assumes nothing.
 use mathlib.Core.Bool.{Bool}
 use mathlib.Core.List.{List}
-use Prim.Native.Nat.{ℕ, _*_, _^_, _<_}
+use Prim.Native.Nat.{ℕ, _*_}
 use lib.Dec.{eqb}
 use lib.ListN.{length}
 use Rattle.bits.specs.Bytes.{wordsIn, wordBytes}
 use Rattle.netlist.specs.Layout.{designOf, countOf}
 use Rattle.netlist.specs.Refusals.{numberOf}
-use mathlib.Core.Path.{_≡_}
 use Rattle.rules.specs.Check.{checkOf}
-use Rattle.rules.specs.Sound.{Acceptance}
 use Rattle.clock.specs.Call.{answerAfter, bothHave, wordsAnswer, leaves, StartCall, CycleCall}
 use Rattle.clock.specs.Values.{plainValues, plainNext, startOf}
 use Rattle.clock.specs.declared.cycle.Clocked.{Clocked}
@@ -21,11 +19,6 @@ use Rattle.desktop.specs.Answer.{refusedAnswer}
 unfoldable pub clockedAnswer : Clocked → ℕ
 clockedAnswer Done = 0
 clockedAnswer (Refused r i) = refusedAnswer (numberOf r) i
-
--- The record of a refusal has room in that number.
-abbrev pub LowRecord : Clocked → Type 0
-LowRecord Done = Unit {0}
-LowRecord (Refused r i) = i < 2 ^ 32
 
 -- A start on a board list of 8 × n bytes.
 unfoldable pub startBuffer : List ℕ → List ℕ → StartCall
@@ -55,11 +48,3 @@ cycleBuffers file board next =
       board = leaves answer (wordBytes (bufferValues file board)) board;
       next = leaves answer (wordBytes (bufferNext file board)) next;
     }
-
--- What the function that runs a cycle on byte lists asks: an accepted file, and lists of the lengths that go with it.
-pub record Lent (file board next words states : List ℕ) : Type 0 where
-  pub accepted : Acceptance file (countOf file)
-  pub board-size : length board ≡ 8 * countOf file
-  pub next-size : length next ≡ 8 * countOf file
-  pub words-size : length words ≡ countOf file
-  pub states-size : length states ≡ countOf file
