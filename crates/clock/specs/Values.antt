@@ -11,6 +11,9 @@ use Rattle.netlist.specs.declared.record.Role.the-variants.{Input, Register, Ou
 use Rattle.rules.specs.Check.{roleAt}
 use Rattle.signal.specs.Results.{resultAt}
 
+-- "The board list has n words of 64 bits. Before a cycle it holds each pin's word at its input and each state at its register; other words
+-- may be anything." A next list has n words too: the board list of the cycle that follows, before new words are put at the inputs.
+
 -- "The value of a signal is this result with the bits cleared where its keep word has 0."
 abbrev pub valueAt : Design → List ℕ → ℕ → ℕ
 valueAt d board i = bitAnd (resultAt (d .at) (wordAt board) i) (d .at i .keep)
