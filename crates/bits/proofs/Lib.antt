@@ -1,6 +1,7 @@
 -- The laws of words, masks and bytes that proofs cite, here and in the crates above.
 -- Assumes nothing.
 pub mod LittleEndian
+pub mod Stores
 pub mod WordBytes
 pub mod Counts
 pub mod Modulo

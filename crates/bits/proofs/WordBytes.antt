@@ -5,11 +5,12 @@ use mathlib.Core.List.{List, [], _∷_, _++_, append-assoc, append-nil}
 use Prim.Native.Nat.{ℕ, _+_, _*_, _-_, _≤_, _<_}
 use native.Mathlib.Numerals.{add-one}
 use native.Mathlib.Omega.{arith}
-use lib.ListN.{length, take, drop, getD, length-drop}
-use lib.Seq.{take-suc, take-all, length-take-le, length-front, take-at}
-use borrow.Rule.Slice.PartMut.{midOf, postOf, putMid, same-len-mid}
+use lib.ListN.{length, take, drop, getD}
+use lib.Seq.{take-suc, take-all, length-take-le, take-at, length-sets, sets-eq}
+use borrow.Rule.Slice.PartMut.{midOf, putMid}
 use Rattle.bits.specs.Bytes.{bytes, wordBytes}
 use Rattle.bits.proofs.ListLaws.{length-append}
+use Rattle.bits.proofs.Stores.{part-stored}
 
 -- the first i words stand at the front of the bytes
 pub record Written (words d : List ℕ) (i : ℕ) : Type 0 where
@@ -26,41 +27,26 @@ pub written-none : (words d : List ℕ) → length d ≡ 8 * length words → Wr
 unfolding wordBytes
 written-none words d e = record { low = omega arith; size = e; front = refl }
 
--- the part of a list from a place on
-pub part-length : (at : ℕ) (d : List ℕ) → length (midOf at (length d - at) d) ≡ length d - at
-part-length at d = length-take-le (length d - at) (drop at d) (let e = length-drop at d in omega arith)
-
 -- the part from word i on is lent to the writer of one word
 module _ (words d part : List ℕ) (i v : ℕ) (w : Written words d i) (h : i < length words) (e : v ≡ getD words i 0) where
-  count : ℕ
-  count = length d - 8 * i
-
-  lent : List ℕ
-  unfolding count
-  lent = midOf (8 * i) count d
+  front : List ℕ
+  front = take (8 * i) d ++ bytes 8 v
 
   pub written-next : part ≡ bytes 8 v ++ drop 8 (midOf (8 * i) (length d - 8 * i) d)
       → Written words (putMid (8 * i) (length d - 8 * i) d part) (i + 1)
-  unfolding count lent
+  unfolding front
   written-next q =
       let s = w .size in
-      let m = part-length (8 * i) d in
+      let stored = part-stored (8 * i) d part (bytes 8 v) (omega arith) q in
       record {
         low = omega arith;
-        size = same-len-mid (8 * i) count d part (ap length q ∙ length-front lent (bytes 8 v) 8 (sym (length-take-le 8 lent (omega arith)))) ∙ s;
-        front = ap₂ take (let z : 8 * (i + 1) ≡ 8 * i + 8 = omega arith in z) shape ∙ take-at (take (8 * i) d ++ bytes 8 v) _ (8 * i + 8) long
-            ∙ ap (λ (l : List ℕ). l ++ bytes 8 v) (w .front) ∙ ap (λ (x : ℕ). wordBytes (take i words) ++ bytes 8 x) e
+        size = ap length stored ∙ length-sets d (8 * i) (bytes 8 v) ∙ s;
+        front =
+            ap₂ take (let z : 8 * (i + 1) ≡ 8 * i + 8 = omega arith in z) (stored ∙ sets-eq (bytes 8 v) d (8 * i) (omega arith))
+            ∙ take-at front _ (8 * i + 8) (length-append (take (8 * i) d) (bytes 8 v) ∙ ap (λ (n : ℕ). n + 8) (length-take-le (8 * i) d (omega arith)))
+            ∙ ap₂ (λ (l : List ℕ) (x : ℕ). l ++ bytes 8 x) (w .front) e
             ∙ sym (bytes-snoc (take i words) (getD words i 0)) ∙ ap wordBytes (sym (take-suc words i 0 h) ∙ ap (λ (n : ℕ). take n words) (sym (add-one i)));
       }
-    where
-      shape : putMid (8 * i) count d part ≡ (take (8 * i) d ++ bytes 8 v) ++ (drop 8 lent ++ postOf (8 * i) count d)
-      shape =
-          ap (λ (l : List ℕ). take (8 * i) d ++ (l ++ postOf (8 * i) count d)) q
-          ∙ ap (λ (l : List ℕ). take (8 * i) d ++ l) (append-assoc (bytes 8 v) (drop 8 lent) (postOf (8 * i) count d))
-          ∙ sym (append-assoc (take (8 * i) d) (bytes 8 v) (drop 8 lent ++ postOf (8 * i) count d))
-
-      long : length (take (8 * i) d ++ bytes 8 v) ≡ 8 * i + 8
-      long = length-append (take (8 * i) d) (bytes 8 v) ∙ ap (λ (n : ℕ). n + 8) (length-take-le (8 * i) d (let s = w .size in omega arith))
 
 pub written-all : (words d : List ℕ) (i : ℕ) → Written words d i → length words ≤ i → d ≡ wordBytes words
 written-all words d i w h =

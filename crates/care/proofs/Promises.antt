@@ -23,7 +23,7 @@ use Rattle.care.proofs.LeastMasks.{masks-least}
 
 -- an accepted call
 module _ (file list : List ℕ) (n : ℕ) (e : checkOf file ≡ Accepted n) (h : length list ≡ n) where
-  filled : masksCall file list ≡ fillMasks (designOf file)
+  pub filled : masksCall file list ≡ fillMasks (designOf file)
   unfolding masksCall
   filled = call-filled (λ n. n) file (fillMasks (designOf file)) list e h
 

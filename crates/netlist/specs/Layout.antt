@@ -35,6 +35,9 @@ abbrev pub countOf : List ℕ → ℕ
 countOf file = numberAt file 6 2
 
 -- The table of fields: kind in byte 0 of a record, width in 1, operands in 2-3, 4-5, 6-7, k in 8-15, keep word in 16-23.
+abbrev pub keepStart : ℕ → ℕ
+keepStart i = recordStart i + 16
+
 unfoldable pub codeAt : List ℕ → ℕ → ℕ
 codeAt file i = byteAt file (recordStart i)
 
@@ -51,7 +54,7 @@ fieldsAt file i =
     }
 
 unfoldable pub keepAt : List ℕ → ℕ → ℕ
-keepAt file i = numberAt file (recordStart i + 16) 8
+keepAt file i = numberAt file (keepStart i) 8
 
 -- "A record read from the file carries only the fields that its kind uses, with width and keep word beside them."
 unfoldable pub recordAt : List ℕ → ℕ → Record

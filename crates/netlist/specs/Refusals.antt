@@ -2,7 +2,7 @@
 -- Assumes nothing.
 use Prim.Native.Nat.{ℕ}
 use Rattle.netlist.specs.declared.refusal.Refusal.{Refusal}
-use Rattle.netlist.specs.declared.refusal.Refusal.the-variants.{TooShort, BadMark, BadVersion, TooManyRecords, BadLength, BadKind, BadWidth, BadOperand, BadWidthRule, UnusedBit, BadList, WideWord}
+use Rattle.netlist.specs.declared.refusal.Refusal.the-variants.{TooShort, BadMark, BadVersion, TooManyRecords, BadLength, BadKind, BadWidth, BadOperand, BadWidthRule, UnusedBit, BadList, WideWord, BadDestination}
 
 -- The paper's number of each refusal.
 abbrev pub numberOf : Refusal → ℕ
@@ -18,3 +18,4 @@ numberOf BadWidthRule = 9
 numberOf UnusedBit = 10
 numberOf BadList = 11
 numberOf WideWord = 12
+numberOf BadDestination = 13

@@ -9,7 +9,7 @@ ghost use mathlib.Core.Path.{_≡_};
 ghost use Prim.Native.Nat.{_+_, _*_, _≤_, _<_, _^_};
 ghost use lib.ListN.{length};
 ghost use Rattle.netlist.specs.Kinds.{usesOf};
-ghost use Rattle.netlist.specs.Layout.{headerSize, recordSize, recordStart, countOf, versionOf, codeAt, widthAt, fieldsAt, keepAt, recordAt};
+ghost use Rattle.netlist.specs.Layout.{headerSize, recordSize, recordStart, keepStart, countOf, versionOf, codeAt, widthAt, fieldsAt, keepAt, recordAt};
 
 // The sizes of the header and of a record, in bytes.
 pub const HEADER: usize = 8;
@@ -68,11 +68,19 @@ pub fn fields_at(file: &[u8], i: usize) -> Fields
     Fields { a, b, c, k }
 }
 
+// Where the keep word of record i starts.
+pub fn keep_start(i: usize) -> usize
+    requires { ⌜ keepStart i < 2 ^ 64 ⌝ }
+    ensures { λ r. ⌜ r ≡ keepStart i ⌝ }
+{
+    record_start(i) + 16
+}
+
 pub fn keep_at(file: &[u8], i: usize) -> u64
     requires { ⌜ recordStart i + recordSize ≤ length (now file) ⌝ }
     ensures { λ r. ⌜ r ≡ keepAt (now (file .entry)) i ⌝ }
 {
-    read_64(file, record_start(i) + 16)
+    read_64(file, keep_start(i))
 }
 
 // Record i, as its kind, width and keep word.

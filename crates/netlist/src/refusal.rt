@@ -17,6 +17,7 @@ pub enum Refusal {
     UnusedBit,
     BadList,
     WideWord,
+    BadDestination,
 }
 
 impl Refusal {
@@ -37,6 +38,7 @@ impl Refusal {
             Refusal::UnusedBit => 10,
             Refusal::BadList => 11,
             Refusal::WideWord => 12,
+            Refusal::BadDestination => 13,
         }
     }
 }

@@ -16,10 +16,10 @@ use Rattle.rules.specs.declared.check.Checked.{Checked}
 use Rattle.rules.specs.declared.check.Checked.the-variants.{Accepted, Refused}
 use Rattle.rules.specs.declared.check.Verdict.{Verdict}
 use Rattle.rules.specs.declared.check.Verdict.the-variants.{Pass, Fail}
-use Rattle.rules.proofs.CheckLaws.{Kept, pass-kept}
+use Rattle.rules.proofs.CheckLaws.{Kept, pass-kept, kept-pass}
 
 -- a step that ends in acceptance passed, and so did what follows
-pub past-refusal : (i n : ℕ) (v : Verdict) (next : Checked) → refuseAt i v next ≡ Accepted n → (v ≡ Pass) × (next ≡ Accepted n)
+past-refusal : (i n : ℕ) (v : Verdict) (next : Checked) → refuseAt i v next ≡ Accepted n → (v ≡ Pass) × (next ≡ Accepted n)
 unfolding refuseAt
 past-refusal i n Pass next e = (refl, e)
 past-refusal i n (Fail r) next e = absurd (let z : _≡_ {A = ℕ} 0 1 = cc in omega arith)
@@ -30,7 +30,7 @@ this-or-later file i j this later (inl e) = subst (λ (k : ℕ). Kept (recordRul
 this-or-later file i j this later (inr h) = later h
 
 -- each record of an accepted file keeps its rules
-pub each-kept : (file : List ℕ) (n left i : ℕ) → checkFrom file left i ≡ Accepted n → (j : ℕ) → i ≤ j → j < i + left → Kept (recordRules file j)
+each-kept : (file : List ℕ) (n left i : ℕ) → checkFrom file left i ≡ Accepted n → (j : ℕ) → i ≤ j → j < i + left → Kept (recordRules file j)
 unfolding checkFrom
 each-kept file n zero i e j h g = absurd (let z : _≡_ {A = ℕ} 0 1 = omega arith in omega arith)
 each-kept file n (suc left) i e j h g =
@@ -44,19 +44,47 @@ accepted-count file n zero i e = let p : countOf file ≡ n = cc in sym p
 accepted-count file n (suc left) i e =
     accepted-count file n left (suc i) (past-refusal i n (firstBroken (recordRules file i)) (checkFrom file left (suc i)) e .1)
 
+-- the rules of the header and of each record, all kept
+pub record AllKept (file : List ℕ) : Type 0 where
+  pub header : Kept (headerRules file)
+  pub each : (i : ℕ) → i < countOf file → Kept (recordRules file i)
+
+-- a file is accepted just where all rules are kept
+pub accepted-kept : (file : List ℕ) (n : ℕ) → checkOf file ≡ Accepted n → AllKept file
+unfolding checkOf
+accepted-kept file n e =
+    let both = past-refusal 0 n (firstBroken (headerRules file)) (checkFrom file (countOf file) 0) e in
+    record {
+      header = pass-kept (headerRules file) (both .0);
+      each = λ i h. each-kept file n (countOf file) 0 (both .1) i (omega arith) (omega arith);
+    }
+
+all-accepted : (file : List ℕ) (left i : ℕ) → ((j : ℕ) → i ≤ j → j < i + left → Kept (recordRules file j)) → checkFrom file left i ≡ Accepted (countOf file)
+unfolding checkFrom refuseAt
+all-accepted file zero i kept = refl
+all-accepted file (suc left) i kept =
+    ap (λ (v : Verdict). refuseAt i v (checkFrom file left (suc i))) (sym (kept-pass (recordRules file i) (kept i (omega arith) (omega arith))))
+    ∙ all-accepted file left (suc i) (λ j h g. kept j (omega arith) (omega arith))
+
+pub kept-accepted : (file : List ℕ) → AllKept file → checkOf file ≡ Accepted (countOf file)
+unfolding checkOf refuseAt
+kept-accepted file k =
+    ap (λ (v : Verdict). refuseAt 0 v (checkFrom file (countOf file) 0)) (sym (kept-pass (headerRules file) (k .header)))
+    ∙ all-accepted file (countOf file) 0 (λ j h g. k .each j (omega arith))
+
 pub accepted : (file : List ℕ) (n : ℕ) → checkOf file ≡ Accepted n → Acceptance file n
 unfolding checkOf headerRules recordRules wordRules designOf
 accepted file n e =
-    let both = past-refusal 0 n (firstBroken (headerRules file)) (checkFrom file (countOf file) 0) e in
-    let header = pass-kept (headerRules file) (both .0) in
-    let same = accepted-count file n (countOf file) 0 (both .1) in
+    let kept = accepted-kept file n e in
+    let header = kept .header in
+    let same = accepted-count file n (countOf file) 0 (past-refusal 0 n (firstBroken (headerRules file)) (checkFrom file (countOf file) 0) e .1) in
     record {
       count = same;
       size = header .1 .1 .1 .1 .0 .0 ∙ ap recordStart (sym same);
       sound = record {
         few = header .1 .1 .1 .0 .0;
         each = λ i h.
-            let k = each-kept file n (countOf file) 0 (both .1) i (omega arith) (omega arith) in
+            let k = kept .each i h in
             record {
               positive = k .1 .0 .0;
               narrow = k .1 .0 .1 .0;

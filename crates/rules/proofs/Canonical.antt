@@ -12,11 +12,11 @@ use Rattle.bits.specs.Bytes.{numberAt, bytes}
 use Rattle.netlist.specs.Kinds.{codeOf, usesOf}
 use Rattle.netlist.specs.Layout.{designOf, recordAt, codeAt, widthAt, fieldsAt, keepAt, countOf, byteAt, recordStart}
 use Rattle.netlist.proofs.KindLaws.{code-back}
-use Rattle.rules.specs.Check.{checkOf, checkFrom, firstBroken, headerRules, recordRules, fieldRules}
+use Rattle.rules.specs.Check.{checkOf, headerRules, recordRules, fieldRules}
 use Rattle.rules.specs.Encode.{encode, encodeFrom, encodeRecord, AreBytes}
 use Rattle.rules.specs.declared.check.Checked.the-variants.{Accepted}
-use Rattle.rules.proofs.Acceptance.{accepted, each-kept, past-refusal}
-use Rattle.rules.proofs.CheckLaws.{Kept, pass-kept}
+use Rattle.rules.proofs.Acceptance.{accepted, accepted-kept}
+use Rattle.rules.proofs.CheckLaws.{Kept}
 use Rattle.rules.proofs.EncodedBytes.{length-record, length-encode}
 
 -- the list l stands in the file from `at` on
@@ -96,12 +96,12 @@ module _ (file : List ℕ) where
 
 -- every accepted file is the encoding of the design that it holds
 pub canonical : (file : List ℕ) (n : ℕ) → AreBytes file → checkOf file ≡ Accepted n → file ≡ encode (designOf file)
-unfolding encode checkOf designOf
+unfolding encode designOf
 canonical file n b e =
-    let both = past-refusal 0 n (firstBroken (headerRules file)) (checkFrom file (countOf file) 0) e in
+    let kept = accepted-kept file n e in
     let header = (0x50 ∷ 0x43 ∷ 0x4e ∷ bytes 2 1) ++ (0 ∷ bytes 2 (countOf file)) in
-    let stands = stands-append file 0 header (encodeFrom (designOf file) (countOf file) 0) (stands-header file b (pass-kept (headerRules file) (both .0)))
-    (stands-from file b (countOf file) 0 (each-kept file n (countOf file) 0 (both .1))) in
+    let stands = stands-append file 0 header (encodeFrom (designOf file) (countOf file) 0) (stands-header file b (kept .header))
+    (stands-from file b (countOf file) 0 (λ j h g. kept .each j (omega arith))) in
     let facts = accepted file n e in
     let size : length file ≡ length (encode (designOf file)) = facts .size ∙ ap recordStart (facts .count) ∙ sym (length-encode (designOf file)) in
     ext-getD 0 file (encode (designOf file)) size (λ i h. ap (byteAt file) (sym (zero-add i)) ∙ stands .each i (omega arith))

@@ -13,12 +13,12 @@ use Rattle.netlist.specs.Layout.{Design, designOf, recordAt, codeAt, widthAt, f
 use Rattle.netlist.specs.Rules.{AllHold}
 use Rattle.netlist.specs.declared.record.Kind.{Kind}
 use Rattle.netlist.proofs.KindLaws.{usedFields, kind-back, code-low}
-use Rattle.rules.specs.Check.{checkOf, checkFrom, refuseAt, headerRules, recordRules, fieldRules, wordRules}
+use Rattle.rules.specs.Check.{checkOf, headerRules, recordRules, fieldRules, wordRules}
 use Rattle.rules.specs.Encode.{encode, encodeFrom, encodeRecord, AreBytes, StandsFor}
 use Rattle.rules.specs.Sound.{Sound, SameDesign}
 use Rattle.rules.specs.declared.check.Checked.the-variants.{Accepted}
-use Rattle.rules.specs.declared.check.Verdict.{Verdict}
-use Rattle.rules.proofs.CheckLaws.{Kept, kept-pass}
+use Rattle.rules.proofs.Acceptance.{kept-accepted}
+use Rattle.rules.proofs.CheckLaws.{Kept}
 use Rattle.rules.proofs.EncodedBytes.{length-encode, byte-encode, number-encode}
 use Rattle.rules.proofs.SoundLaws.{operands-below, word-64, k-64, record-same}
 
@@ -36,14 +36,6 @@ bytes-append (x ∷ l) m b c = byte-first (b .low 0) (bytes-append l m (record {
 
 number-bytes : (size v : ℕ) → AreBytes (bytes size v)
 number-bytes size v = record { low = bytes-low size v }
-
--- records that all keep their rules are accepted
-all-accepted : (file : List ℕ) (left i : ℕ) → ((j : ℕ) → i ≤ j → j < i + left → Kept (recordRules file j)) → checkFrom file left i ≡ Accepted (countOf file)
-unfolding checkFrom refuseAt
-all-accepted file zero i kept = refl
-all-accepted file (suc left) i kept =
-    ap (λ (v : Verdict). refuseAt i v (checkFrom file left (suc i))) (sym (kept-pass (recordRules file i) (kept i (omega arith) (omega arith))))
-    ∙ all-accepted file left (suc i) (λ j h g. kept j (omega arith) (omega arith))
 
 module _ (d : Design) (s : Sound d) where
   count-back : countOf (encode d) ≡ d .count
@@ -109,11 +101,8 @@ module _ (d : Design) (s : Sound d) where
       ((omega arith, tt), ((e .positive, (e .narrow, tt)), (e .operands, (e .widths, (fields-kept i h, ((e .keep, (e .word, tt)), tt))))))
 
   check-back : checkOf (encode d) ≡ Accepted (d .count)
-  unfolding checkOf refuseAt
   check-back =
-      ap (λ (v : Verdict). refuseAt 0 v (checkFrom (encode d) (countOf (encode d)) 0)) (sym (kept-pass (headerRules (encode d)) header-kept))
-      ∙ all-accepted (encode d) (countOf (encode d)) 0 (λ j h g. record-kept j (let n = count-back in omega arith))
-      ∙ ap Accepted count-back
+      kept-accepted (encode d) (record { header = header-kept; each = λ i h. record-kept i (let n = count-back in omega arith) }) ∙ ap Accepted count-back
 
   -- every element of the file is a byte
   record-bytes : (i : ℕ) → i < d .count → AreBytes (encodeRecord (d .at i))

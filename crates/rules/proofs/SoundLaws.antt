@@ -1,6 +1,6 @@
 -- Laws of sound designs: operand fields name records of the design, k fits a word, a register has the width of its a, and a design that is
 -- the same in all its records is sound too. Assumes nothing.
-use mathlib.Core.Path.{_≡_, sym, subst}
+use mathlib.Core.Path.{_≡_, sym, ap, subst}
 use mathlib.Core.List.{List, [], _∷_}
 use mathlib.Core.Bool.{false}
 use Prim.Native.Nat.{ℕ, _^_, _≤_, _<_}
@@ -15,6 +15,7 @@ use Rattle.netlist.specs.Rules.{AllHold}
 use Rattle.netlist.specs.declared.record.Kind.{Kind}
 use Rattle.netlist.specs.declared.record.Kind.the-variants.{Input, Constant, Register, Output, Extract, Concat, And, Or, Xor, Mux, Add, Sub, Mul, Equal, Below}
 use Rattle.netlist.specs.declared.record.Record.{Record}
+use Rattle.netlist.specs.declared.record.Role.{Role}
 use Rattle.netlist.specs.declared.record.Role.the-variants.{Register as register}
 use Rattle.netlist.specs.declared.record.Uses.{Uses}
 use Rattle.netlist.proofs.KindLaws.{padded, is-register}
@@ -96,14 +97,13 @@ register-loads d s i h a k e =
       reset = subst (λ (kind : Kind). usesOf kind .word < 2 ^ d .at i .width) q (s .each i h .word);
     }
 
--- the operands' rules look only at records below the limit
-names-same : (d e : Design) (limit : ℕ) → ((j : ℕ) → j < limit → d .at j ≡ e .at j) → (js : List ℕ) → AllHold (namesRules d limit js) → AllHold (namesRules e limit js)
+-- the operands' rules look only at the roles of records below the limit
+pub names-same : (d e : Design) (limit : ℕ) → ((j : ℕ) → j < limit → roleAt d j ≡ roleAt e j) → (js : List ℕ)
+    → AllHold (namesRules d limit js) → AllHold (namesRules e limit js)
 unfolding namesRules
 names-same d e limit same [] a = tt
-names-same d e limit same (j ∷ js) a = (
-  a .0,
-  (subst (λ (r : Record). isOutput (usesOf (r .kind) .role) ≡ false) (same j (a .0)) (a .1 .0), names-same d e limit same js (a .1 .1)),
-)
+names-same d e limit same (j ∷ js) a =
+    (a .0, (subst (λ (r : Role). isOutput r ≡ false) (same j (a .0)) (a .1 .0), names-same d e limit same js (a .1 .1)))
 
 module _ (d e : Design) (same : SameDesign d e) (s : Sound d) (i : ℕ) (h : i < d .count) where
   operands-same : AllHold (operandRules e i)
@@ -111,7 +111,8 @@ module _ (d e : Design) (same : SameDesign d e) (s : Sound d) (i : ℕ) (h : i <
   operands-same =
       subst (λ (r : Record). AllHold (namesRules e (operandLimit (usesOf (r .kind) .role) (e .count) i) (operandsOf (usesOf (r .kind))))) (same .each i h)
       (subst (λ (n : ℕ). AllHold (namesRules e (operandLimit (usesOf (d .at i .kind) .role) n i) (operandsOf (usesOf (d .at i .kind))))) (same .count)
-      (names-same d e (operandLimit (usesOf (d .at i .kind) .role) (d .count) i) (λ j g. same .each j (let l = limit-count d s i h in omega arith))
+      (names-same d e (operandLimit (usesOf (d .at i .kind) .role) (d .count) i)
+      (λ j g. ap (λ (r : Record). usesOf (r .kind) .role) (same .each j (let l = limit-count d s i h in omega arith)))
       (operandsOf (usesOf (d .at i .kind))) (s .each i h .operands)))
 
   widths-same : AllHold (widthRulesAt e i)

@@ -6,7 +6,7 @@ use clock::cycle::Clocked;
 use clock::cycle::both_have;
 use clock::cycle::run;
 use clock::reset::reset;
-use desktop::refused;
+use desktop::answer::refused;
 use netlist::record::Record;
 use netlist::refusal::Refusal;
 use rules::check::Checked;

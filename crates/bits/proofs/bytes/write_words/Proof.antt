@@ -6,7 +6,8 @@ use native.Mathlib.Nat.{le-refl}
 use native.Mathlib.Omega.{arith}
 use lib.ListN.{length}
 use denote.Ref.{now}
-use Rattle.bits.proofs.WordBytes.{Written, part-length, written-none, written-next, written-all}
+use Rattle.bits.proofs.Stores.{part-length}
+use Rattle.bits.proofs.WordBytes.{Written, written-none, written-next, written-all}
 use Rattle.bits.proofs.bytes.write_words.Statement.{statement}
 use Rattle.bits.proofs.bytes.write_words.Tie as tie
 

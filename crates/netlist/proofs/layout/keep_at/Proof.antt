@@ -1,7 +1,7 @@
 -- `netlist::layout::keep_at` meets its contract: the number in the last 8 bytes of the record.
 -- Assumes nothing.
 use mathlib.Core.Path.{ap, _∙_}
-use Prim.Native.Nat.{ℕ, _+_}
+use Prim.Native.Nat.{ℕ}
 use borrow.Author.Needs.{needs}
 use denote.Ref.{now}
 use Rattle.netlist.specs.Layout.{keepAt}
@@ -9,18 +9,15 @@ use Rattle.bits.specs.Bytes.{numberAt}
 use Rattle.netlist.proofs.layout.keep_at.Statement.{statement}
 use Rattle.netlist.proofs.layout.keep_at.Tie as tie
 
-record-start-requires : tie.Need-record-start-requires
-record-start-requires c κs = search needs
-
-add-read-64 : tie.Need-add-read-64
-add-read-64 c = search needs
+keep-start-requires : tie.Need-keep-start-requires
+keep-start-requires c κs = search needs
 
 read-64-requires : tie.Need-read-64-requires
 read-64-requires c κs = search needs
 
 returns : tie.Need-returns
 unfolding keepAt
-returns c = c .read-64 .ensures ∙ ap (λ (n : ℕ). numberAt (now (c .before .before .before .args .file)) (n + 16) 8) (c .before .record-start .ensures)
+returns c = c .read-64 .ensures ∙ ap (λ (n : ℕ). numberAt (now (c .before .before .before .args .file)) n 8) (c .before .keep-start .ensures)
 
 pub keep-at-spec : {M : Type 1} → statement M
-keep-at-spec = tie.close (tie.spec record-start-requires add-read-64 read-64-requires returns)
+keep-at-spec = tie.close (tie.spec keep-start-requires read-64-requires returns)

@@ -40,6 +40,9 @@ enum-told-11 c = c .match .keys11
 enum-told-12 : tie.Need-enum-told-12
 enum-told-12 c = c .match .keys12
 
+enum-told-13 : tie.Need-enum-told-13
+enum-told-13 c = c .match .keys13
+
 returns : tie.Need-returns
 returns c = (rw (c .enum-told .given .1), lit< tt)
 
@@ -76,6 +79,9 @@ returns-11 c = (rw (c .enum-told11 .given .1), lit< tt)
 returns-12 : tie.Need-returns-12
 returns-12 c = (rw (c .enum-told12 .given .1), lit< tt)
 
+returns-13 : tie.Need-returns-13
+returns-13 c = (rw (c .enum-told13 .given .1), lit< tt)
+
 pub number-spec : {M : Type 1} → statement M
 number-spec =
     tie.close
@@ -92,6 +98,7 @@ number-spec =
     enum-told-10
     enum-told-11
     enum-told-12
+    enum-told-13
     returns
     returns-2
     returns-3
@@ -103,4 +110,5 @@ number-spec =
     returns-9
     returns-10
     returns-11
-    returns-12)
+    returns-12
+    returns-13)

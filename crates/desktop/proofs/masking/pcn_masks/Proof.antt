@@ -1,5 +1,6 @@
--- `desktop::pcn_masks` meets its contract: the three ends of a call, each as one number and the buffer it leaves.
+-- `desktop::masking::pcn_masks` meets its contract: the three ends of a call, each as one number and the buffer it leaves.
 -- Assumes nothing.
+use Rattle.desktop.proofs.AnswerLaws.{buffer-low, tally-fits, record-low}
 use mathlib.Core.Path.{sym, ap, subst, _∙_}
 use Prim.Native.Nat.{ℕ, _*_, _<_, _^_}
 use native.Mathlib.Omega.{arith}
@@ -15,8 +16,8 @@ use Rattle.care.specs.Least.{masksOf}
 use Rattle.rules.proofs.Acceptance.{accepted, refused-low}
 use Rattle.desktop.specs.Buffers.{masksBuffer, fillBuffer}
 use Rattle.desktop.specs.Answer.{refusedAnswer, tallyAnswer, talliedAnswer}
-use Rattle.desktop.proofs.pcn_masks.Statement.{statement}
-use Rattle.desktop.proofs.pcn_masks.Tie as tie
+use Rattle.desktop.proofs.masking.pcn_masks.Statement.{statement}
+use Rattle.desktop.proofs.masking.pcn_masks.Tie as tie
 
 check-requires : tie.Need-check-requires
 check-requires c κs = tt
@@ -25,9 +26,7 @@ enum-known-n : tie.Need-enum-known-n
 enum-known-n c = c .match .keys1
 
 mul-if1 : tie.Need-mul-if1
-unfolding designOf
-mul-if1 c = let a = accepted (now (c .before .before .before .before .before .before .args .file)) _
-    (sym (c .before .before .before .check .ensures) ∙ c .before .n .given .1) in let f = a .sound .few in let e = a .count in omega arith
+mul-if1 c = let l = buffer-low (now (c .before .before .before .before .before .before .args .file)) _ (sym (c .before .before .before .check .ensures) ∙ c .before .n .given .1) in omega arith
 
 number-requires : tie.Need-number-requires
 number-requires c κs = tt
@@ -52,13 +51,7 @@ fill-buffer-requires c κs = (
 )
 
 tallied-requires : tie.Need-tallied-requires
-tallied-requires c κs = let args = c .before .before .before .before .before .before .before .before .before .before .before .args in
-    let file = now (args .file) in
-    let a = accepted file _ (sym (c .before .before .before .before .before .before .before .before .check .ensures)
-    ∙ c .before .before .before .before .before .before .n .given .1) in
-    let d = designOf file in
-    let l = tally-low d (a .sound) (masksOf d) (masks-fit d (a .sound)) in
-    subst (λ (t : Tally). (t .widths < 2 ^ 31) × (t .ones < 2 ^ 31)) (sym (c .before .before .fill-buffer .ensures .0)) l
+tallied-requires c κs = tally-fits (now (c .before .before .before .before .before .before .before .before .before .before .before .args .file)) _ (sym (c .before .before .before .before .before .before .before .before .check .ensures) ∙ c .before .before .before .before .before .before .n .given .1) (c .before .before .fill-buffer .ensures .0)
 
 enum-known-r : tie.Need-enum-known-r
 enum-known-r c = c .match .keys2
@@ -67,11 +60,7 @@ number-requires-2 : tie.Need-number-requires-2
 number-requires-2 c κs = tt
 
 refused-requires-2 : tie.Need-refused-requires-2
-refused-requires-2 c κs = (
-  c .number2 .ensures .1,
-  let h = refused-low (now (c .before .before .before .before .before .before .before .args .file)) _ _
-      (sym (c .before .before .before .before .check .ensures) ∙ c .before .before .r .given .1) in omega arith,
-)
+refused-requires-2 c κs = (c .number2 .ensures .1, record-low (now (c .before .before .before .before .before .before .before .args .file)) _ _ (sym (c .before .before .before .before .check .ensures) ∙ c .before .before .r .given .1))
 
 same-length : tie.Need-same-length
 same-length c = search needs

@@ -1,4 +1,4 @@
--- `desktop::pcn_check` meets its contract: the answer of check, as one number; its record is below the limit of records.
+-- `desktop::checking::pcn_check` meets its contract: the answer of check, as one number; its record is below the limit of records.
 -- Assumes nothing.
 use mathlib.Core.Path.{sym, ap, _∙_}
 use Prim.Native.Nat.{ℕ}
@@ -7,8 +7,8 @@ use borrow.Author.Needs.{needs}
 use denote.Ref.{now}
 use Rattle.rules.proofs.Acceptance.{refused-low}
 use Rattle.desktop.specs.Answer.{checkAnswer, refusedAnswer}
-use Rattle.desktop.proofs.pcn_check.Statement.{statement}
-use Rattle.desktop.proofs.pcn_check.Tie as tie
+use Rattle.desktop.proofs.checking.pcn_check.Statement.{statement}
+use Rattle.desktop.proofs.checking.pcn_check.Tie as tie
 
 check-requires : tie.Need-check-requires
 check-requires c κs = search needs

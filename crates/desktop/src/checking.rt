@@ -1,0 +1,19 @@
+// The check of a file, for C.
+// Nothing is asked of a caller in Rattle.
+use crate::answer::refused;
+use rules::check::Checked;
+use rules::check::check;
+ghost use mathlib.Core.Path.{_≡_};
+ghost use Rattle.rules.specs.Check.{checkOf};
+ghost use Rattle.desktop.specs.Answer.{checkAnswer};
+
+// Checks a file: the count of its records, or the refusal and its record.
+#[no_mangle]
+pub extern "C" fn pcn_check(file: &[u8]) -> u64
+    ensures { λ r. ⌜ r ≡ checkAnswer (checkOf (now (file .entry))) ⌝ }
+{
+    match check(file) {
+        Checked::Accepted(n) => n as u64,
+        Checked::Refused(r, i) => refused(r.number(), i as u64),
+    }
+}

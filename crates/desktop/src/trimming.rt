@@ -1,0 +1,56 @@
+// The trimmed file and its masks as bytes, for C.
+// `pcn_trim` asks nothing of a caller in Rattle; the function below it asks for an accepted file and room for what is written.
+use crate::answer::refused;
+use crate::answer::tallied;
+use crate::masking::fill_both;
+use care::tally::Tally;
+use netlist::record::Record;
+use netlist::refusal::Refusal;
+use rules::check::Checked;
+use rules::check::check;
+use trim::write::write_trimmed;
+ghost use mathlib.Core.Path.{_≡_};
+ghost use Prim.Native.Nat.{_*_};
+ghost use lib.ListN.{length};
+ghost use Rattle.bits.specs.Bytes.{wordBytes};
+ghost use Rattle.netlist.specs.Layout.{designOf};
+ghost use Rattle.rules.specs.Sound.{Acceptance};
+ghost use Rattle.care.specs.Call.{tallyOf};
+ghost use Rattle.care.specs.Least.{masksOf};
+ghost use Rattle.trim.specs.Trimmed.{trimmed};
+ghost use Rattle.desktop.specs.Answer.{talliedAnswer};
+ghost use Rattle.desktop.specs.Buffers.{trimBuffers};
+
+// Fills a buffer of 8 × n bytes with the masks of an accepted file, and one of the file's length with the trimmed file.
+fn trim_buffers(file: &[u8], masks: &mut [u8], destination: &mut [u8], n: usize) -> Tally
+    requires { ⌜ Acceptance (now file) n × (length (now masks) ≡ 8 * n) × (length (now destination) ≡ length (now file)) ⌝ }
+    ensures tally { λ r. ⌜ r ≡ tallyOf (designOf (now (file .entry))) (masksOf (designOf (now (file .entry)))) ⌝ }
+    ensures masks { λ r. ⌜ now (masks .exit) ≡ wordBytes (masksOf (designOf (now (file .entry)))) ⌝ }
+    ensures destination { λ r. ⌜ now (destination .exit) ≡ trimmed (now (file .entry)) ⌝ }
+{
+    let mut words: [u64; Record::MAX_COUNT] = [0; Record::MAX_COUNT];
+    let tally = fill_both(file, &mut words[..n], masks);
+    write_trimmed(file, &words[..n], destination);
+    tally
+}
+
+// Writes the masks of a file's design, 8 bytes each, and the trimmed file: the tally, or the refusal and its record.
+#[no_mangle]
+pub extern "C" fn pcn_trim(file: &[u8], masks: &mut [u8], destination: &mut [u8]) -> u64
+    ensures answer { λ r. ⌜ r ≡ talliedAnswer (trimBuffers (now (file .entry)) (now (masks .entry)) (now (destination .entry)) .answer) ⌝ }
+    ensures masks { λ r. ⌜ now (masks .exit) ≡ trimBuffers (now (file .entry)) (now (masks .entry)) (now (destination .entry)) .list ⌝ }
+    ensures destination { λ r. ⌜ now (destination .exit) ≡ trimBuffers (now (file .entry)) (now (masks .entry)) (now (destination .entry)) .destination ⌝ }
+{
+    match check(file) {
+        Checked::Accepted(n) => {
+            if masks.len() != 8 * n {
+                return refused(Refusal::BadList.number(), 0);
+            }
+            if destination.len() != file.len() {
+                return refused(Refusal::BadDestination.number(), 0);
+            }
+            tallied(trim_buffers(file, masks, destination, n))
+        }
+        Checked::Refused(r, i) => refused(r.number(), i as u64),
+    }
+}

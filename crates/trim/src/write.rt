@@ -1,0 +1,26 @@
+// Writes a file whose keep words are cut by masks.
+// A caller has an accepted file, a mask for each record, and as many bytes as the file has.
+use bits::bytes::write_64;
+use bytes::copy;
+use netlist::layout::keep_at;
+use netlist::layout::keep_start;
+ghost use mathlib.Core.Path.{_≡_};
+ghost use lib.ListN.{length};
+ghost use Rattle.netlist.specs.Layout.{countOf};
+ghost use Rattle.rules.specs.Sound.{Acceptance};
+ghost use Rattle.trim.specs.Trimmed.{trimmedBy};
+
+pub fn write_trimmed(file: &[u8], list: &[u64], destination: &mut [u8])
+    requires { ⌜ Acceptance (now file) (countOf (now file)) × (length (now list) ≡ countOf (now file)) × (length (now destination) ≡ length (now file)) ⌝ }
+    ensures { λ r. ⌜ now (destination .exit) ≡ trimmedBy (now (file .entry)) (now (list .entry)) ⌝ }
+{
+    copy(file, destination);
+    let mut i: usize = 0;
+    while i < list.len() {
+        write_64(
+            &mut destination[keep_start(i)..],
+            list[i] & keep_at(file, i),
+        );
+        i += 1;
+    }
+}
