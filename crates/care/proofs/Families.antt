@@ -18,8 +18,8 @@ use Rattle.signal.specs.Asks.{Granted, Fit, asked}
 use Rattle.signal.specs.declared.asks.Ask.{Ask}
 use Rattle.signal.proofs.RuleLaws.{asked-fit}
 use Rattle.rules.specs.Sound.{Sound}
+use Rattle.signal.specs.Held.{Named}
 use Rattle.care.specs.Least.{Closed, maskAt, grant, joined}
-use Rattle.care.specs.Sweep.{Named}
 
 -- a family lies within another
 pub record Inside (M F : ℕ → ℕ) : Type 0 where

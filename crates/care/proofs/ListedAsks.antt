@@ -7,7 +7,7 @@ use native.Mathlib.Omega.{arith}
 use lib.ListN.{take}
 use lib.Seq.{take-all}
 use Rattle.signal.specs.declared.asks.Ask.{Ask}
-use Rattle.care.specs.Sweep.{Named}
+use Rattle.signal.specs.Held.{Named}
 
 -- the first k of three
 module _ (x y z : Ask) where

@@ -14,8 +14,9 @@ use Rattle.netlist.specs.Layout.{Design}
 use Rattle.signal.specs.Asks.{Granted}
 use Rattle.signal.specs.declared.asks.Ask.{Ask}
 use Rattle.rules.specs.Sound.{Sound}
+use Rattle.signal.specs.Held.{Named}
 use Rattle.care.specs.Least.{maskAt, grant, onesSum, joined}
-use Rattle.care.specs.Sweep.{Named, passedMark, markOf, markFor, marksOf}
+use Rattle.care.specs.Sweep.{passedMark, markOf, markFor, marksOf}
 use Rattle.care.proofs.Families.{Inside, same-or-not, below-or-not, joined-same, joined-other, joined-above, joined-least, length-joined, still-named, allBits}
 use Rattle.care.proofs.LeastMasks.{no-more, ones-grow}
 

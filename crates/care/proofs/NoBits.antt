@@ -9,11 +9,11 @@ use lib.Bits.{bitOr, or-zero-r}
 use lib.ListN.{set}
 use lib.Seq.{set-getD}
 use Rattle.signal.specs.Asks.{asked}
-use Rattle.signal.specs.Held.{listed, NoBit, Serves}
+use Rattle.signal.specs.Held.{listed, NoBit, Serves, Named}
 use Rattle.signal.specs.declared.asks.Ask.{Ask}
 use Rattle.signal.specs.declared.asks.Asks.{Asks}
 use Rattle.care.specs.Least.{maskAt, grant, joined}
-use Rattle.care.specs.Sweep.{Named, markFor, marksOf}
+use Rattle.care.specs.Sweep.{markFor, marksOf}
 use Rattle.care.proofs.Marks.{unchanged}
 
 -- asks of no bit change no mask and mark no record

@@ -11,8 +11,8 @@ use Rattle.netlist.specs.Layout.{Design}
 use Rattle.signal.specs.Asks.{Granted, asked}
 use Rattle.signal.proofs.RuleLaws.{asked-fit, asked-grow}
 use Rattle.rules.specs.Sound.{Sound}
+use Rattle.signal.specs.Held.{Named}
 use Rattle.care.specs.Least.{Closed, maskAt, roundTo}
-use Rattle.care.specs.Sweep.{Named}
 use Rattle.care.proofs.Families.{Inside, inside-refl, inside-trans, granted-more, length-grant, grant-above, grant-granted, grant-least, fit-named}
 
 module _ (d : Design) (s : Sound d) where

@@ -12,8 +12,9 @@ use Rattle.netlist.specs.Layout.{Design}
 use Rattle.signal.specs.Asks.{Granted, asked}
 use Rattle.signal.specs.declared.asks.Ask.{Ask}
 use Rattle.rules.specs.Sound.{Sound}
+use Rattle.signal.specs.Held.{Named}
 use Rattle.care.specs.Least.{maskAt, grant, widthSum, onesSum, Fits}
-use Rattle.care.specs.Sweep.{Named, marksOf, Between, Settled, Swept}
+use Rattle.care.specs.Sweep.{marksOf, Between, Settled, Swept}
 use Rattle.care.proofs.Families.{Inside, inside-refl, inside-trans, granted-more, length-grant, grant-above, grant-granted, grant-least, allBits, all-closed}
 use Rattle.care.proofs.Rounds.{asked-named, closed-grants}
 use Rattle.care.proofs.LeastMasks.{list-inside, ones-le}

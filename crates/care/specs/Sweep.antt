@@ -14,11 +14,6 @@ use Rattle.signal.specs.declared.asks.Ask.{Ask}
 use Rattle.rules.specs.Sound.{Acceptance}
 use Rattle.care.specs.Least.{Closed, Fits, maskAt, joined, onesSum}
 
--- Each ask names one of n records.
-abbrev pub Named : ℕ → List Ask → Type 0
-Named n [] = Unit {0}
-Named n (x ∷ xs) = (x .operand < n) × Named n xs
-
 -- One more than `at` where a sweep that stands at record i has passed that record by, else 0; and the same where in addition its
 -- mask changes from `old` to `new`.
 abbrev pub passedMark : ℕ → ℕ → ℕ

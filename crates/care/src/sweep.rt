@@ -10,9 +10,9 @@ ghost use lib.ListN.{length};
 ghost use Rattle.bits.specs.Words.{lowMasks};
 ghost use Rattle.netlist.specs.Layout.{designOf, countOf};
 ghost use Rattle.rules.specs.Sound.{Acceptance};
-ghost use Rattle.signal.specs.Held.{listed};
+ghost use Rattle.signal.specs.Held.{listed, Named};
 ghost use Rattle.care.specs.Least.{grant, leastAbove, Fits, joined};
-ghost use Rattle.care.specs.Sweep.{Named, passedMark, markFor, marksOf, Ready, Swept};
+ghost use Rattle.care.specs.Sweep.{passedMark, markFor, marksOf, Ready, Swept};
 
 // One more than `at` where a sweep that stands at record i has passed that record by, else 0.
 fn mark(i: usize, at: usize) -> usize

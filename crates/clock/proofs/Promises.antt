@@ -16,7 +16,7 @@ use Rattle.rules.specs.declared.check.Checked.{Checked}
 use Rattle.rules.specs.declared.check.Checked.the-variants.{Accepted, Refused as refused}
 use Rattle.rules.proofs.Acceptance.{accepted}
 use Rattle.clock.specs.Call.{answerAfter, isWide, leaves, startCall, cycleWith, cycleCall}
-use Rattle.clock.specs.Values.{unchanged, valueAt, plainValues, plainNext, nextWord, startWord, startOf}
+use Rattle.clock.specs.Values.{unchanged, valueAt, valuesOf, plainValues, plainNext, nextWord, nextOf, startWord, startOf}
 use Rattle.clock.specs.declared.cycle.Clocked.{Clocked}
 use Rattle.clock.specs.declared.cycle.Clocked.the-variants.{Done, Refused}
 use Rattle.clock.proofs.CallLaws.{both-fit}
@@ -43,19 +43,21 @@ passed (Accepted n) fit rest e = go (fit n) refl e
 
 -- ---- start
 
--- "Start writes the reset states at the registers and 0 elsewhere in a board list."
-pub started : (file board : List ℕ) → startCall file board .answer ≡ Done → (i : ℕ) → i < countOf file
-    → wordAt (startCall file board .board) i ≡ startWord (roleAt (designOf file) i)
-unfolding startCall designOf
-started file board e i h = ap (λ (c : Clocked). wordAt (leaves c (startOf (designOf file)) board) i) e ∙ start-word (designOf file) i h
+module _ (file board : List ℕ) (e : startCall file board .answer ≡ Done) where
+  pub start-left : startCall file board .board ≡ startOf (designOf file)
+  unfolding startCall
+  start-left = ap (λ (c : Clocked). leaves c (startOf (designOf file)) board) e
 
--- and a cycle can go on from there: 12 applies to no record
-pub start-goes-on : (file board : List ℕ) → startCall file board .answer ≡ Done → (i : ℕ) → i < countOf file
-    → isWide (designOf file) (startCall file board .board) i ≡ false
-unfolding startCall designOf
-start-goes-on file board e i h =
-    ap (λ (c : Clocked). isWide (designOf file) (leaves c (startOf (designOf file)) board) i) e
-    ∙ start-passes (designOf file) (accepted file _ (passed _ _ _ e .checked) .sound) i h
+  -- "Start writes the reset states at the registers and 0 elsewhere in a board list."
+  pub started : (i : ℕ) → i < countOf file → wordAt (startCall file board .board) i ≡ startWord (roleAt (designOf file) i)
+  unfolding designOf
+  started i h = ap (λ (l : List ℕ). wordAt l i) start-left ∙ start-word (designOf file) i h
+
+  -- and a cycle can go on from there: 12 applies to no record
+  pub start-goes-on : (i : ℕ) → i < countOf file → isWide (designOf file) (startCall file board .board) i ≡ false
+  unfolding startCall designOf
+  start-goes-on i h =
+      ap (λ (l : List ℕ). isWide (designOf file) l i) start-left ∙ start-passes (designOf file) (accepted file _ (passed _ _ _ e .checked) .sound) i h
 
 -- "No lent word or byte changes."
 pub start-refused : (file board : List ℕ) (r : Refusal) (i : ℕ) → startCall file board .answer ≡ Refused r i → startCall file board .board ≡ board
@@ -64,22 +66,33 @@ start-refused file board r i e = ap (λ (c : Clocked). leaves c (startOf (design
 
 -- ---- cycle
 
-module _ (file board next : List ℕ) (e : cycleCall file board next .answer ≡ Done) where
-  values-left : cycleCall file board next .board ≡ plainValues (designOf file) board
+-- what an accepted cycle leaves, also where values are changed
+module _ (change : ℕ → ℕ → ℕ) (file board next : List ℕ) (e : cycleWith change file board next .answer ≡ Done) where
+  pub values-left : cycleWith change file board next .board ≡ valuesOf (designOf file) change board
   unfolding cycleWith
-  values-left = ap (λ (c : Clocked). leaves c (plainValues (designOf file) board) board) e
+  values-left = ap (λ (c : Clocked). leaves c (valuesOf (designOf file) change board) board) e
 
-  next-left : cycleCall file board next .next ≡ plainNext (designOf file) board
+  pub next-left : cycleWith change file board next .next ≡ nextOf (designOf file) (valuesOf (designOf file) change board)
   unfolding cycleWith
-  next-left = ap (λ (c : Clocked). leaves c (plainNext (designOf file) board) next) e
+  next-left = ap (λ (c : Clocked). leaves c (nextOf (designOf file) (valuesOf (designOf file) change board)) next) e
 
-  sound : Sound (designOf file)
+  pub cycle-sound : Sound (designOf file)
   unfolding cycleWith
-  sound = accepted file _ (passed _ _ _ e .checked) .sound
+  cycle-sound = accepted file _ (passed _ _ _ e .checked) .sound
 
-  board-length : length board ≡ countOf file
+  pub board-length : length board ≡ countOf file
   unfolding cycleWith
   board-length = let p = passed _ _ _ e in both-fit _ _ _ (p .room) .0 ∙ accepted file _ (p .checked) .count
+
+module _ (file board next : List ℕ) (e : cycleCall file board next .answer ≡ Done) where
+  abbrev left : cycleCall file board next .board ≡ plainValues (designOf file) board
+  left = values-left unchanged file board next e
+
+  abbrev size : length board ≡ countOf file
+  size = board-length unchanged file board next e
+
+  sound : Sound (designOf file)
+  sound = cycle-sound unchanged file board next e
 
   -- "word i is the value of signal i": what its record gives from the values of its operands, and at an input or register from the word
   -- that the board list held there
@@ -87,24 +100,24 @@ module _ (file board next : List ℕ) (e : cycleCall file board next .answer ≡
       → wordAt (cycleCall file board next .board) i ≡ valueAt (designOf file) (set (cycleCall file board next .board) i (wordAt board i)) i
   unfolding designOf
   clocked i h =
-      subst (λ (l : List ℕ). wordAt l i ≡ valueAt (designOf file) (set l i (wordAt board i)) i) (sym values-left)
-      (value-defined (designOf file) sound unchanged board board-length i h)
+      subst (λ (l : List ℕ). wordAt l i ≡ valueAt (designOf file) (set l i (wordAt board i)) i) (sym left)
+      (value-defined (designOf file) sound unchanged board size i h)
 
   -- "at each register, the value of its a, and 0 elsewhere"
   pub loaded : (i : ℕ) → i < countOf file → wordAt (cycleCall file board next .next) i ≡ nextWord (cycleCall file board next .board) (roleAt (designOf file) i)
   unfolding designOf
   loaded i h =
-      ap (λ (l : List ℕ). wordAt l i) next-left
+      ap (λ (l : List ℕ). wordAt l i) (next-left unchanged file board next e)
       ∙ next-word (designOf file) (plainValues (designOf file) board) i h
-      ∙ ap (λ (l : List ℕ). nextWord l (roleAt (designOf file) i)) (sym values-left)
+      ∙ ap (λ (l : List ℕ). nextWord l (roleAt (designOf file) i)) (sym left)
 
   -- the next cycle can go on from there: 12 applies to no record of the next list
   pub goes-on : (i : ℕ) → i < countOf file → isWide (designOf file) (cycleCall file board next .next) i ≡ false
   unfolding designOf
   goes-on i h =
-      ap (λ (l : List ℕ). isWide (designOf file) l i) next-left
+      ap (λ (l : List ℕ). isWide (designOf file) l i) (next-left unchanged file board next e)
       ∙ next-passes (designOf file) sound i h (plainValues (designOf file) board)
-      (λ j g. values-narrow (designOf file) sound unchanged board board-length j g (λ v l. l))
+      (λ j g. values-narrow (designOf file) sound unchanged board size j g (λ v l. l))
 
 -- "No lent word or byte changes."
 pub cycle-refused : (file board next : List ℕ) (r : Refusal) (i : ℕ) → cycleCall file board next .answer ≡ Refused r i

@@ -4,3 +4,4 @@ pub mod Reading
 pub mod RuleLaws
 pub mod ResultLaws
 pub mod ResultWidths
+pub mod AskedOperands

@@ -139,10 +139,15 @@ limit-own (register a k) n i e = absurd (let z : _≡_ {A = ℕ} 0 1 = cc in ome
 limit-own output n i e = refl
 limit-own gate n i e = refl
 
+pub names-below : (d : Design) → Sound d → (i : ℕ) → i < d .count → isHeld (roleAt d i) ≡ false
+    → AllHold (namesRules d i (operandsOf (usesOf (d .at i .kind))))
+unfolding operandRules
+names-below d s i h e =
+    subst (λ (limit : ℕ). AllHold (namesRules d limit (operandsOf (usesOf (d .at i .kind))))) (limit-own (roleAt d i) (d .count) i e) (s .each i h .operands)
+
 module _ (d : Design) (s : Sound d) (i : ℕ) (h : i < d .count) (v v′ : ℕ → ℕ) where
   pub result-same : ((j : ℕ) → j < i → v j ≡ v′ j) → (isHeld (roleAt d i) ≡ true → v i ≡ v′ i) → resultAt (d .at) v i ≡ resultAt (d .at) v′ i
-  unfolding resultAt operandRules
+  unfolding resultAt
   result-same same held =
       let kind = d .at i .kind in
-      results-same d i v v′ same kind (d .at i .width) (d .at (usesOf kind .b) .width) (v i) (v′ i) held
-      (λ e. subst (λ (limit : ℕ). AllHold (namesRules d limit (operandsOf (usesOf kind)))) (limit-own (usesOf kind .role) (d .count) i e) (s .each i h .operands))
+      results-same d i v v′ same kind (d .at i .width) (d .at (usesOf kind .b) .width) (v i) (v′ i) held (names-below d s i h)

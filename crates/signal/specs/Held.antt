@@ -3,7 +3,7 @@
 use mathlib.Core.Path.{_≡_}
 use mathlib.Core.List.{List, [], _∷_}
 use mathlib.Core.Logic.{_⊎_}
-use Prim.Native.Nat.{ℕ, _+_, _≤_}
+use Prim.Native.Nat.{ℕ, _+_, _≤_, _<_}
 use lib.ListN.{length, take}
 use Rattle.netlist.specs.Limits.{maxWidth}
 use Rattle.netlist.specs.Kinds.{usesOf}
@@ -15,6 +15,11 @@ use Rattle.signal.specs.declared.asks.Asks.{Asks}
 -- The asks that the code's struct holds.
 abbrev pub listed : Asks → List Ask
 listed r = take (r .count) (r .first ∷ r .second ∷ r .third ∷ [])
+
+-- Each ask names one of the first n records.
+abbrev pub Named : ℕ → List Ask → Type 0
+Named n [] = Unit {0}
+Named n (x ∷ xs) = (x .operand < n) × Named n xs
 
 -- No bit is asked.
 abbrev pub NoBit : List Ask → Type 0

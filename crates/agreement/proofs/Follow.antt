@@ -1,0 +1,62 @@
+-- A design that follows another: the same kinds and widths, and keep words that agree on each mask. A design follows itself, and the design
+-- of the trimmed file follows that of the file. Assumes nothing.
+use mathlib.Core.Path.{_≡_, refl, sym, ap, subst}
+use mathlib.Core.List.{List}
+use Prim.Native.Nat.{ℕ, _<_}
+use Rattle.bits.specs.Masks.{Agree}
+use Rattle.bits.proofs.Agreement.{agree-refl, agree-by-bits}
+use Rattle.bits.proofs.Digits.{bit-lt, bit-and}
+use Rattle.netlist.specs.Kinds.{usesOf}
+use Rattle.netlist.specs.Layout.{Design, designOf}
+use Rattle.netlist.specs.declared.record.Kind.{Kind}
+use Rattle.netlist.specs.declared.record.Record.{Record}
+use Rattle.rules.specs.Check.{roleAt, checkOf}
+use Rattle.rules.specs.Sound.{Sound, SameDesign}
+use Rattle.rules.specs.declared.check.Checked.the-variants.{Accepted}
+use Rattle.rules.proofs.SoundLaws.{operands-below}
+use Rattle.signal.specs.Asks.{caredOf}
+use Rattle.signal.specs.Results.{resultAt}
+use Rattle.care.specs.Least.{maskAt}
+use Rattle.trim.specs.Trimmed.{trimmedBy, trimDesign}
+use Rattle.trim.proofs.Trimmed.{holds-cut}
+use Rattle.agreement.specs.Claim.{Version, same, trimmed, fileOf}
+use native.Mathlib.Omega.{arith}
+
+pub record Follows (d e : Design) (M : ℕ → ℕ) : Type 0 where
+  pub count : d .count ≡ e .count
+  pub kind : (i : ℕ) → i < d .count → d .at i .kind ≡ e .at i .kind
+  pub width : (i : ℕ) → i < d .count → d .at i .width ≡ e .at i .width
+  pub keep : (i : ℕ) → i < d .count → Agree (M i) (d .at i .keep) (e .at i .keep)
+
+pub follows-self : (d : Design) (M : ℕ → ℕ) → Follows d d M
+follows-self d M = record { count = refl; kind = λ i h. refl; width = λ i h. refl; keep = λ i h. agree-refl (M i) (d .at i .keep) }
+
+-- the keep word, and the keep word cut by a mask, agree on the mask
+cut-agrees : (r : Record) (m : ℕ) → Agree m (r .keep) (caredOf r m)
+cut-agrees r m =
+    agree-by-bits (λ i e. let b = bit-and m (r .keep) i in let l = bit-lt (r .keep) i in omega arith)
+
+pub follows-cut : (d e : Design) (masks : List ℕ) → SameDesign (trimDesign d masks) e → Follows d e (maskAt masks)
+unfolding trimDesign
+follows-cut d e masks s =
+    record {
+      count = s .count;
+      kind = λ i h. ap (λ (r : Record). r .kind) (s .each i h);
+      width = λ i h. ap (λ (r : Record). r .width) (s .each i h);
+      keep = λ i h. subst (λ (r : Record). Agree (maskAt masks i) (d .at i .keep) (r .keep)) (s .each i h) (cut-agrees (d .at i) (maskAt masks i));
+    }
+
+-- either file of the second run
+pub follows : (version : Version) (file masks : List ℕ) (n : ℕ) → checkOf file ≡ Accepted n
+    → Follows (designOf file) (designOf (fileOf version file masks)) (maskAt masks)
+follows same file masks n e = follows-self (designOf file) (maskAt masks)
+follows trimmed file masks n e = follows-cut (designOf file) (designOf (trimmedBy file masks)) masks (holds-cut file n e masks)
+
+-- what follows from equal kinds and widths
+module _ (d e : Design) (M : ℕ → ℕ) (f : Follows d e M) (i : ℕ) (h : i < d .count) where
+  pub role-same : roleAt e i ≡ roleAt d i
+  role-same = ap (λ (k : Kind). usesOf k .role) (sym (f .kind i h))
+
+  pub result-follows : Sound d → (word : ℕ → ℕ) → resultAt (e .at) word i ≡ resultAt (d .at) word i
+  unfolding resultAt
+  result-follows s word = rw (sym (f .kind i h), sym (f .width i h), sym (f .width (usesOf (d .at i .kind) .b) (operands-below d s i h .b)))

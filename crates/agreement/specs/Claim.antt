@@ -1,0 +1,58 @@
+-- The claim about two whole runs, as 01 states it under "Two runs".
+-- Assumes nothing.
+use mathlib.Core.Path.{_≡_}
+use mathlib.Core.List.{List}
+use Prim.Native.Nat.{ℕ, _<_}
+use lib.ListN.{length}
+use Rattle.bits.specs.Lists.{wordAt}
+use Rattle.bits.specs.Masks.{Agree}
+use Rattle.netlist.specs.Layout.{Design, designOf}
+use Rattle.netlist.specs.declared.record.Role.the-variants.{Input, Register, Output}
+use Rattle.rules.specs.Check.{roleAt, checkOf}
+use Rattle.rules.specs.declared.check.Checked.the-variants.{Accepted}
+use Rattle.care.specs.Least.{maskAt, masksOf}
+use Rattle.trim.specs.Trimmed.{trimmedBy}
+use Rattle.agreement.specs.Runs.{Call, Step, runOf, kindsOf, cyclesOf, cycleAt}
+use Rattle.agreement.specs.Scrambled.{Manner, plain, changeIn}
+
+-- The second run "is of the same file or of the one that trim writes for it".
+pub data Version : Type 0 where
+  same : Version
+  trimmed : Version
+
+abbrev pub fileOf : Version → List ℕ → List ℕ → List ℕ
+fileOf same file masks = file
+fileOf trimmed file masks = trimmedBy file masks
+
+-- What is supposed of two runs of a design. "A bit of signal x is cared for where M(x) of that design has it, also when the trimmed file runs."
+pub record Supposed (d : Design) (masks board board′ : List ℕ) (first second : List Step) : Type 0 where
+  -- "the two first board lists have equal cared bits at each register"
+  pub registers : (i a k : ℕ) → i < d .count → roleAt d i ≡ Register a k → Agree (maskAt masks i) (wordAt board i) (wordAt board′ i)
+  -- "the accepted calls of both are of the same kinds in the same order"
+  pub kinds : kindsOf first ≡ kindsOf second
+  -- "for every j, the words put at each input in the j-th accepted cycles have equal cared bits"
+  pub inputs : (j i : ℕ) → j < length (cyclesOf first) → i < d .count → roleAt d i ≡ Input
+      → Agree (maskAt masks i) (cycleAt first j .words i) (cycleAt second j .words i)
+
+-- What then follows.
+pub record Agreeing (d : Design) (masks : List ℕ) (first second : List Step) : Type 0 where
+  -- "for every j, the values of the j-th accepted cycles are equal at each output"
+  pub outputs : (j i : ℕ) → j < length (cyclesOf first) → i < d .count → roleAt d i ≡ Output
+      → wordAt (cycleAt first j .values) i ≡ wordAt (cycleAt second j .values) i
+  -- "and equal in the cared bits of each signal"
+  pub signals : (j i : ℕ) → j < length (cyclesOf first) → i < d .count
+      → Agree (maskAt masks i) (wordAt (cycleAt first j .values) i) (wordAt (cycleAt second j .values) i)
+
+-- The claim for a file and a list of masks. "The first run is of the design. The second has its own board list and calls", is of either file,
+-- and "may also be scrambled".
+abbrev pub RunsAgree : List ℕ → List ℕ → Type 0
+RunsAgree file masks =
+    let d = designOf file in
+    (version : Version) (manner : Manner) (board board′ : List ℕ) (calls calls′ : List Call)
+    → let first = runOf (changeIn plain d masks) file board calls in
+    let second = runOf (changeIn manner d masks) (fileOf version file masks) board′ calls′ in
+    Supposed d masks board board′ first second → Agreeing d masks first second
+
+-- Demand 3: "An accepted design is a file that check accepts", and the masks are its own.
+abbrev pub TwoRuns : Type 0
+TwoRuns = (file : List ℕ) (n : ℕ) → checkOf file ≡ Accepted n → RunsAgree file (masksOf (designOf file))
