@@ -9,7 +9,6 @@ use lib.ListN.{length}
 use Rattle.bits.specs.Lists.{wordAt}
 use Rattle.bits.specs.Masks.{Agree}
 use Rattle.bits.proofs.Agreement.{agree-refl, agree-within}
-use Rattle.bits.proofs.ListLaws.{length-words, word-at}
 use Rattle.bits.proofs.Order.{meet-left}
 use Rattle.netlist.specs.Kinds.{isHeld}
 use Rattle.netlist.specs.Layout.{Design}
@@ -27,6 +26,7 @@ use Rattle.clock.proofs.StateLaws.{start-word, next-word}
 use Rattle.agreement.specs.Runs.{putWord, withInputs}
 use Rattle.agreement.proofs.Follow.{Follows, role-same}
 use Rattle.agreement.proofs.OneCycle.{Close}
+use Rattle.agreement.proofs.RunLaws.{input-word}
 
 pub record Tied (d : Design) (masks board board′ : List ℕ) : Type 0 where
   pub each : (i a k : ℕ) → i < d .count → roleAt d i ≡ Register a k → Agree (caredOf (d .at i) (maskAt masks i)) (wordAt board i) (wordAt board′ i)
@@ -36,16 +36,6 @@ pub tied-first : (d : Design) (masks board board′ : List ℕ)
     → ((i a k : ℕ) → i < d .count → roleAt d i ≡ Register a k → Agree (maskAt masks i) (wordAt board i) (wordAt board′ i)) → Tied d masks board board′
 tied-first d masks board board′ registers =
     record { each = λ i a k h e. agree-within (meet-left (maskAt masks i) (d .at i .keep)) (registers i a k h e) }
-
--- the words of a board list with others put at the inputs
-pub length-inputs : (d : Design) (words : ℕ → ℕ) (board : List ℕ) → length (withInputs d words board) ≡ length board
-unfolding withInputs
-length-inputs d words board = length-words _ (length board)
-
-input-word : (d : Design) (words : ℕ → ℕ) (board : List ℕ) (i : ℕ) → i < length board
-    → wordAt (withInputs d words board) i ≡ putWord (roleAt d i) (words i) (wordAt board i)
-unfolding withInputs
-input-word d words board i h = word-at (λ j. putWord (roleAt d j) (words j) (wordAt board j)) (length board) i h
 
 module _ (d e : Design) (masks : List ℕ) (f : Follows d e (maskAt masks)) where
   abbrev D : ℕ → ℕ

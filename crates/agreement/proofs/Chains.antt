@@ -31,12 +31,6 @@ module _ (allowed : (ℕ → ℕ → ℕ) → Type 0) (file : List ℕ) where
 
   module _ (change : ℕ → ℕ → ℕ → ℕ) (all : (j : ℕ) → allowed (change j)) where
     -- an accepted call is the next link, and after a refused one the run is where it was
-    start-link : (j : ℕ) (board : List ℕ) (calls : List Call) → ((b : List ℕ) → Chain b (runFrom change file (suc j) b calls))
-        → (a : Clocked) → startCall file board .answer ≡ a
-        → let done = outcome a started (startCall file board .board) board in Chain board (done .steps ++ runFrom change file (suc j) (done .board) calls)
-    start-link j board calls rest Done e = (startCall file board .board, record { accepted = e; left = refl }, rest (startCall file board .board))
-    start-link j board calls rest (Refused r i) e = rest board
-
     cycle-link : (j : ℕ) (board : List ℕ) (calls : List Call) → ((b : List ℕ) → Chain b (runFrom change file (suc j) b calls))
         → (words : ℕ → ℕ) (next : List ℕ) (a : Clocked) → cycleWith (change j) file (withInputs (designOf file) words board) next .answer ≡ a
         → let call = cycleWith (change j) file (withInputs (designOf file) words board) next in
@@ -48,6 +42,12 @@ module _ (allowed : (ℕ → ℕ → ℕ) → Type 0) (file : List ℕ) where
       rest (cycleWith (change j) file (withInputs (designOf file) words board) next .next),
     )
     cycle-link j board calls rest words next (Refused r i) e = rest board
+
+    start-link : (j : ℕ) (board : List ℕ) (calls : List Call) → ((b : List ℕ) → Chain b (runFrom change file (suc j) b calls))
+        → (a : Clocked) → startCall file board .answer ≡ a
+        → let done = outcome a started (startCall file board .board) board in Chain board (done .steps ++ runFrom change file (suc j) (done .board) calls)
+    start-link j board calls rest Done e = (startCall file board .board, record { accepted = e; left = refl }, rest (startCall file board .board))
+    start-link j board calls rest (Refused r i) e = rest board
 
     pub chain-of : (j : ℕ) (board : List ℕ) (calls : List Call) → Chain board (runFrom change file j board calls)
     unfolding runFrom callOn

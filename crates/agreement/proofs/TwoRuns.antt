@@ -27,10 +27,11 @@ use Rattle.clock.proofs.Promises.{start-left, values-left, next-left, cycle-sou
 use Rattle.agreement.specs.Claim.{Version, fileOf, Supposed, Agreeing, RunsAgree, TwoRuns}
 use Rattle.agreement.specs.Runs.{Cycle, Step, started, cycled, withInputs, kindsOf, cyclesOf, cycleAt}
 use Rattle.agreement.specs.Scrambled.{Manner, plain, changeIn}
-use Rattle.agreement.proofs.Between.{Tied, tied-first, tied-start, tied-next, length-inputs, held-agree}
+use Rattle.agreement.proofs.Between.{Tied, tied-first, tied-start, tied-next, held-agree}
 use Rattle.agreement.proofs.Chains.{StartedFrom, CycledFrom, Chain, chain-of}
 use Rattle.agreement.proofs.Follow.{Follows, follows}
 use Rattle.agreement.proofs.OneCycle.{Close, cycle-close}
+use Rattle.agreement.proofs.RunLaws.{length-inputs}
 use Rattle.agreement.proofs.ScrambleLaws.{Gentle, gentle}
 
 -- "the words put at each input in the j-th accepted cycles have equal cared bits"

@@ -3,3 +3,4 @@
 pub mod Runs
 pub mod Scrambled
 pub mod Claim
+pub mod Examples

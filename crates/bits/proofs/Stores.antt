@@ -2,6 +2,7 @@
 -- Assumes nothing.
 use mathlib.Core.Path.{_≡_, refl, sym, ap, ap₂, subst, _∙_}
 use mathlib.Core.List.{List, [], _∷_, _++_, append-assoc, append-nil}
+use mathlib.Core.Logic.{_⊎_, inl, inr}
 use Prim.Native.Nat.{ℕ, zero, suc, _+_, _-_, _*_, _/_, _%_, _^_, _≤_, _<_}
 use native.Mathlib.Nat.{pow-suc, div-lt-iff-lt-mul, mod-add-div}
 use native.Mathlib.Omega.{arith}
@@ -18,9 +19,13 @@ pub stored-before : (vs l : List ℕ) (i j : ℕ) → j < i → getD (sets l i v
 stored-before [] l i j h = refl
 stored-before (v ∷ vs) l i j h = stored-before vs (set l i v) (suc i) j (omega arith) ∙ getD-set-other l i j v 0 (λ q. omega arith)
 
-pub stored-after : (vs l : List ℕ) (i j : ℕ) → i + length vs ≤ j → getD (sets l i vs) j 0 ≡ getD l j 0
+stored-after : (vs l : List ℕ) (i j : ℕ) → i + length vs ≤ j → getD (sets l i vs) j 0 ≡ getD l j 0
 stored-after [] l i j h = refl
 stored-after (v ∷ vs) l i j h = stored-after vs (set l i v) (suc i) j (omega arith) ∙ getD-set-other l i j v 0 (λ q. omega arith)
+
+pub stored-outside : (vs l : List ℕ) (i j : ℕ) → (j < i) ⊎ (i + length vs ≤ j) → getD (sets l i vs) j 0 ≡ getD l j 0
+stored-outside vs l i j (inl h) = stored-before vs l i j h
+stored-outside vs l i j (inr h) = stored-after vs l i j h
 
 -- ---- numbers
 

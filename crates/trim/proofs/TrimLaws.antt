@@ -7,16 +7,16 @@ use Prim.Native.Nat.{ℕ, zero, suc, _+_, _-_, _^_, _≤_, _<_}
 use native.Mathlib.Nat.{eq-or-lt-of-le, not-suc-le-zero}
 use native.Mathlib.Numerals.{add-one}
 use native.Mathlib.Omega.{arith}
-use lib.ListN.{length, take, drop}
+use lib.ListN.{length, take, drop, length-set}
 use lib.Seq.{sets, length-sets, take-length, drop-length}
 use borrow.Rule.Slice.PartMut.{midOf, putMid}
 use Rattle.bits.specs.Bytes.{numberAt, bytes}
-use Rattle.bits.proofs.Stores.{stored-before, stored-after, number-same, number-stored, part-stored}
+use Rattle.bits.proofs.Stores.{stored-before, stored-outside, number-same, number-stored, part-stored}
 use Rattle.netlist.specs.Layout.{countOf, byteAt, recordAt, recordSize, recordStart, keepStart}
 use Rattle.signal.specs.Asks.{caredOf}
 use Rattle.care.specs.Least.{maskAt}
 use Rattle.care.proofs.Families.{below-or-not}
-use Rattle.trim.specs.Trimmed.{trimTo, trimmedBy, Outside}
+use Rattle.trim.specs.Trimmed.{newKeep, trimTo, trimmedBy, Outside}
 
 -- ---- what lies outside the keep words
 
@@ -33,29 +33,20 @@ pub in-header : (n p : ℕ) → p < 8 → Outside n p
 in-header n p h i g = inl (omega arith)
 
 module _ (file masks : List ℕ) where
-  abbrev D : ℕ → ℕ
-  D i = caredOf (recordAt file i) (maskAt masks i)
-
   pub length-trim : (n : ℕ) → length (trimTo file masks n) ≡ length file
   unfolding trimTo
   length-trim zero = refl
-  length-trim (suc n) = length-sets (trimTo file masks n) (keepStart n) (bytes 8 (D n)) ∙ length-trim n
+  length-trim (suc n) = simp length-set (length-trim n)
 
   -- "It changes only bytes 16 to 23 of each record"
   pub trim-outside : (n p : ℕ) → Outside n p → byteAt (trimTo file masks n) p ≡ byteAt file p
   unfolding trimTo
   trim-outside zero p h = refl
-  trim-outside (suc n) p h = step (h n (omega arith)) ∙ trim-outside n p (λ i g. h i (omega arith))
-    where
-      new : List ℕ
-      new = bytes 8 (D n)
-
-      step : (p < keepStart n) ⊎ (keepStart n + 8 ≤ p) → byteAt (sets (trimTo file masks n) (keepStart n) new) p ≡ byteAt (trimTo file masks n) p
-      step (inl l) = stored-before new (trimTo file masks n) (keepStart n) p l
-      step (inr l) = stored-after new (trimTo file masks n) (keepStart n) p l
+  trim-outside (suc n) p h = stored-outside (bytes 8 (newKeep file masks n)) (trimTo file masks n) _ p (h n (omega arith)) ∙ trim-outside n p (λ i g. h i (omega arith))
 
   -- "the new keep word is D"
-  pub trim-keep : (n j : ℕ) → j < n → recordStart n ≤ length file → D j < 2 ^ 64 → numberAt (trimTo file masks n) (keepStart j) 8 ≡ D j
+  pub trim-keep : (n j : ℕ) → j < n → recordStart n ≤ length file → caredOf (recordAt file j) (maskAt masks j) < 2 ^ 64
+      → numberAt (trimTo file masks n) (keepStart j) 8 ≡ caredOf (recordAt file j) (maskAt masks j)
   unfolding trimTo
   trim-keep zero j h l low = absurd (not-suc-le-zero h)
   trim-keep (suc n) j h l low = here-or-before (λ g. trim-keep n j g (omega arith) low) (eq-or-lt-of-le (let g : j ≤ n = omega arith in g))
@@ -63,16 +54,19 @@ module _ (file masks : List ℕ) where
       list : List ℕ
       list = trimTo file masks n
 
-      here-or-before : (j < n → numberAt list (keepStart j) 8 ≡ D j) → (j ≡ n) ⊎ (j < n)
-          → numberAt (sets list (keepStart n) (bytes 8 (D n))) (keepStart j) 8 ≡ D j
+      new : List ℕ
+      new = bytes 8 (newKeep file masks n)
+
+      D : ℕ → ℕ
+      D i = caredOf (recordAt file i) (maskAt masks i)
+
+      here-or-before : (j < n → numberAt list (keepStart j) 8 ≡ D j) → (j ≡ n) ⊎ (j < n) → numberAt (sets list (keepStart n) new) (keepStart j) 8 ≡ D j
       here-or-before before (inl q) =
-          ap (λ (k : ℕ). numberAt (sets list (keepStart n) (bytes 8 (D n))) (keepStart k) 8) q
+          ap (λ (k : ℕ). numberAt (sets list (keepStart n) new) (keepStart k) 8) q
           ∙ number-stored 8 (D n) list (keepStart n) (let e = length-trim n in omega arith) (subst (λ (k : ℕ). D k < 2 ^ 64) q low)
           ∙ ap D (sym q)
       here-or-before before (inr g) =
-          number-same (sets list (keepStart n) (bytes 8 (D n))) list (keepStart j) 8
-          (λ p a b. stored-before (bytes 8 (D n)) list (keepStart n) p (omega arith))
-          ∙ before g
+          number-same (sets list (keepStart n) new) list (keepStart j) 8 (λ p a b. stored-before new list (keepStart n) p (omega arith)) ∙ before g
 
 -- ---- the file as it is being written
 
@@ -92,7 +86,7 @@ trimming-none file masks d e s q =
 
 -- the part that starts at a keep word is lent to the writer of a word
 pub trimming-next : (file masks d part : List ℕ) (i at v : ℕ) → Trimming file masks d i → i < length masks → recordStart i + recordSize ≤ length file
-    → at ≡ keepStart i → v ≡ caredOf (recordAt file i) (maskAt masks i) → part ≡ bytes 8 v ++ drop 8 (midOf at (length d - at) d)
+    → at ≡ keepStart i → v ≡ newKeep file masks i → part ≡ bytes 8 v ++ drop 8 (midOf at (length d - at) d)
     → Trimming file masks (putMid at (length d - at) d part) (i + 1)
 unfolding trimTo
 trimming-next file masks d part i at v t h l ea ev q =

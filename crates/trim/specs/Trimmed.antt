@@ -10,11 +10,15 @@ use Rattle.netlist.specs.declared.record.Record.{Record}
 use Rattle.signal.specs.Asks.{caredOf}
 use Rattle.care.specs.Least.{maskAt, masksOf}
 
--- "It changes only bytes 16 to 23 of each record: the new keep word is D." A file once this is done to the records below i: the bytes of D
--- stand from the start of each keep word on.
+-- "the new keep word is D"
+abbrev pub newKeep : List ℕ → List ℕ → ℕ → ℕ
+newKeep file masks i = caredOf (recordAt file i) (maskAt masks i)
+
+-- "It changes only bytes 16 to 23 of each record": a file once this is done to the records below i. The bytes of the new keep word stand
+-- where the old one stood.
 unfoldable pub trimTo : List ℕ → List ℕ → ℕ → List ℕ
 trimTo file masks zero = file
-trimTo file masks (suc i) = sets (trimTo file masks i) (keepStart i) (bytes 8 (caredOf (recordAt file i) (maskAt masks i)))
+trimTo file masks (suc i) = sets (trimTo file masks i) (keepStart i) (bytes 8 (newKeep file masks i))
 
 -- A file that is trimmed by a list of masks, and by the masks of its own design: "Trim works out the masks, .. and writes a file of equal length".
 unfoldable pub trimmedBy : List ℕ → List ℕ → List ℕ
@@ -27,7 +31,7 @@ trimmed file = trimmedBy file (masksOf (designOf file))
 abbrev pub Outside : ℕ → ℕ → Type 0
 Outside n p = (i : ℕ) → i < n → (p < keepStart i) ⊎ (keepStart i + 8 ≤ p)
 
--- The same for designs: "the new keep word is D", and all else is as it was.
+-- The same for designs: the keep word of each record is D, and all else is as it was.
 abbrev pub trimRecord : Record → ℕ → Record
 trimRecord r mask = record { kind = r .kind; width = r .width; keep = caredOf r mask }
 

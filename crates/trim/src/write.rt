@@ -17,10 +17,8 @@ pub fn write_trimmed(file: &[u8], list: &[u64], destination: &mut [u8])
     copy(file, destination);
     let mut i: usize = 0;
     while i < list.len() {
-        write_64(
-            &mut destination[keep_start(i)..],
-            list[i] & keep_at(file, i),
-        );
+        let at = keep_start(i);
+        write_64(&mut destination[at..], list[i] & keep_at(file, i));
         i += 1;
     }
 }

@@ -1,0 +1,20 @@
+-- The table of examples: what the definitions give is what the paper says, by computation.
+-- Assumes nothing.
+use mathlib.Core.Path.{_≡_, refl}
+use lib.Count.{onesIn}
+use Rattle.bits.specs.Lists.{wordsFrom, wordsOf, sumTo}
+use Rattle.netlist.specs.Kinds.{kindOf, operandsOf}
+use Rattle.netlist.specs.Layout.{codeAt, widthAt, fieldsAt, keepAt, recordAt, designOf}
+use Rattle.rules.specs.Check.{headerRules, namesRules, operandRules, widthRulesAt, fieldRules, wordRules, recordRules, firstBroken, refuseAt, checkFrom, checkOf}
+use Rattle.signal.specs.Asks.{asked}
+use Rattle.signal.specs.Results.{resultAt}
+use Rattle.care.specs.Call.{callAfter, masksCall}
+use Rattle.care.specs.Least.{grant, roundTo, settle, leastAbove, masksOf}
+use Rattle.clock.specs.Call.{answerAfter, wideFrom, wordsAnswer, cycleWith}
+use Rattle.clock.specs.Values.{valuesTo, valuesOf, nextOf}
+use Rattle.bits.specs.Words.{lengthIn}
+use Rattle.agreement.specs.Examples.{table, definedOf, saidOf}
+
+pub examples : definedOf table ≡ saidOf table
+unfolding table definedOf saidOf wordsFrom wordsOf sumTo kindOf operandsOf codeAt widthAt fieldsAt keepAt recordAt designOf headerRules namesRules operandRules widthRulesAt fieldRules wordRules recordRules firstBroken refuseAt checkFrom checkOf asked resultAt callAfter masksCall grant roundTo settle leastAbove masksOf answerAfter wideFrom wordsAnswer cycleWith valuesTo valuesOf nextOf lengthIn onesIn
+examples = refl

@@ -1,0 +1,125 @@
+-- The examples of 01 that are marked P: one table, each row from the bytes of a file.
+-- Assumes nothing.
+use mathlib.Core.List.{List, [], _∷_, _++_}
+use Prim.Native.Nat.{ℕ}
+use lib.ListN.{length}
+use Rattle.bits.specs.Bytes.{bytes}
+use Rattle.bits.specs.Lists.{wordsOf}
+use Rattle.bits.specs.Words.{lowMask}
+use Rattle.netlist.specs.Refusals.{numberOf}
+use Rattle.care.specs.Call.{MasksCall, masksCall}
+use Rattle.care.specs.declared.tally.Tallied.{Tallied}
+use Rattle.care.specs.declared.tally.Tallied.the-variants.{Done, Refused}
+use Rattle.clock.specs.Call.{CycleCall, cycleCall}
+
+-- The bytes of a record: kind, width, a, b, c, k and keep word. "All keep words are full unless stated."
+abbrev kept : ℕ → ℕ → ℕ → ℕ → ℕ → ℕ → ℕ → List ℕ
+kept kind w a b c k keep = kind ∷ w ∷ bytes 2 a ++ bytes 2 b ++ bytes 2 c ++ bytes 8 k ++ bytes 8 keep
+
+abbrev full : ℕ → ℕ → ℕ → ℕ → ℕ → ℕ → List ℕ
+full kind w a b c k = kept kind w a b c k (lowMask w)
+
+-- The bytes of a file with these records.
+abbrev joined : List (List ℕ) → List ℕ
+joined [] = []
+joined (l ∷ ls) = l ++ joined ls
+
+abbrev fileWith : List (List ℕ) → List ℕ
+fileWith records = 0x50 ∷ 0x43 ∷ 0x4e ∷ bytes 2 1 ++ (0 ∷ bytes 2 (length records)) ++ joined records
+
+abbrev input : ℕ → List ℕ
+input w = full 0 w 0 0 0 0
+
+abbrev constant : ℕ → ℕ → List ℕ
+constant w k = full 1 w 0 0 0 k
+
+abbrev register : ℕ → ℕ → ℕ → List ℕ
+register w a k = full 2 w a 0 0 k
+
+abbrev output : ℕ → ℕ → List ℕ
+output w a = full 3 w a 0 0 0
+
+abbrev extract : ℕ → ℕ → ℕ → List ℕ
+extract w a k = full 4 w a 0 0 k
+
+abbrev concat : ℕ → ℕ → ℕ → List ℕ
+concat w a b = full 5 w a b 0 0
+
+abbrev mux : ℕ → ℕ → ℕ → ℕ → List ℕ
+mux w a b c = full 9 w a b c 0
+
+abbrev add : ℕ → ℕ → ℕ → List ℕ
+add w a b = full 10 w a b 0 0
+
+abbrev sub : ℕ → ℕ → ℕ → List ℕ
+sub w a b = full 11 w a b 0 0
+
+abbrev mul : ℕ → ℕ → ℕ → List ℕ
+mul w a b = full 12 w a b 0 0
+
+-- The files. A ramp has the width of its output and the k of its extract.
+abbrev ramp : ℕ → ℕ → List ℕ
+ramp w k = fileWith (input 32 ∷ input 32 ∷ input 32 ∷ mul 32 0 1 ∷ add 32 3 2 ∷ extract w 4 k ∷ output w 5 ∷ [])
+
+abbrev counter : List ℕ
+counter = fileWith (register 8 2 0 ∷ constant 8 1 ∷ add 8 0 1 ∷ [])
+
+abbrev shiftChain : List ℕ
+shiftChain = fileWith (input 1 ∷ register 4 3 0 ∷ extract 3 1 1 ∷ concat 4 0 2 ∷ extract 1 1 0 ∷ output 1 4 ∷ [])
+
+abbrev unreadMux : List ℕ
+unreadMux = fileWith (input 1 ∷ input 8 ∷ input 8 ∷ mux 8 0 1 2 ∷ [])
+
+abbrev swapped : List ℕ
+swapped = fileWith (register 8 1 0 ∷ register 8 0 0 ∷ [])
+
+abbrev difference : List ℕ
+difference = fileWith (constant 8 0 ∷ constant 8 1 ∷ sub 8 0 1 ∷ [])
+
+abbrev square : List ℕ
+square = fileWith (constant 64 0x100000001 ∷ mul 64 0 0 ∷ [])
+
+abbrev nibble : List ℕ
+nibble = fileWith (kept 0 8 0 0 0 0 0x0f ∷ [])
+
+-- What masks says of a file of n records: the two tally numbers, and the masks.
+abbrev answerOf : Tallied → List ℕ
+answerOf (Done t) = t .widths ∷ t .ones ∷ []
+answerOf (Refused r i) = numberOf r ∷ i ∷ []
+
+abbrev masksSay : List ℕ → ℕ → List ℕ
+masksSay file n = let call = masksCall file (wordsOf (λ i. 0) n) in answerOf (call .answer) ++ call .list
+
+-- The values after a cycle on a board list, and the next list.
+abbrev valuesSay : List ℕ → List ℕ → List ℕ
+valuesSay file board = cycleCall file board board .board
+
+abbrev nextSay : List ℕ → List ℕ → List ℕ
+nextSay file board = cycleCall file board board .next
+
+-- A row: what the definitions say, and what the paper says.
+pub record Row : Type 0 where
+  pub defined : List ℕ
+  pub said : List ℕ
+
+unfoldable pub table : List Row
+table =
+    record { defined = masksSay (ramp 16 0) 7; said = 192 ∷ 112 ∷ 0xffff ∷ 0xffff ∷ 0xffff ∷ 0xffff ∷ 0xffff ∷ 0xffff ∷ 0xffff ∷ [] }
+    ∷ record { defined = masksSay (ramp 8 8) 7; said = 176 ∷ 88 ∷ 0xffff ∷ 0xffff ∷ 0xffff ∷ 0xffff ∷ 0xff00 ∷ 0xff ∷ 0xff ∷ [] }
+    ∷ record { defined = masksSay counter 3; said = 24 ∷ 0 ∷ 0 ∷ 0 ∷ 0 ∷ [] }
+    ∷ record { defined = masksSay shiftChain 6; said = 14 ∷ 14 ∷ 1 ∷ 0xf ∷ 7 ∷ 0xf ∷ 1 ∷ 1 ∷ [] }
+    ∷ record { defined = masksSay unreadMux 4; said = 25 ∷ 1 ∷ 1 ∷ 0 ∷ 0 ∷ 0 ∷ [] }
+    ∷ record { defined = nextSay swapped (1 ∷ 2 ∷ []); said = 2 ∷ 1 ∷ [] }
+    ∷ record { defined = valuesSay difference (0 ∷ 0 ∷ 0 ∷ []); said = 0 ∷ 1 ∷ 255 ∷ [] }
+    ∷ record { defined = valuesSay square (0 ∷ 0 ∷ []); said = 0x100000001 ∷ 8589934593 ∷ [] }
+    ∷ record { defined = valuesSay nibble (0xab ∷ []); said = 0x0b ∷ [] }
+    ∷ []
+
+-- The two columns.
+unfoldable pub definedOf : List Row → List (List ℕ)
+definedOf [] = []
+definedOf (row ∷ rows) = row .defined ∷ definedOf rows
+
+unfoldable pub saidOf : List Row → List (List ℕ)
+saidOf [] = []
+saidOf (row ∷ rows) = row .said ∷ saidOf rows
