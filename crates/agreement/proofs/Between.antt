@@ -1,8 +1,8 @@
 -- What ties two runs together between calls: the words at each register agree on D. It holds at first, after a start and after a cycle, and it
 -- is what a cycle needs. Assumes nothing.
-use mathlib.Core.Path.{_≡_, refl, sym, ap, subst, _∙_}
+use mathlib.Core.Path.{_≡_, refl, ap, subst, _∙_}
 use mathlib.Core.Bool.{true}
-use mathlib.Core.List.{List, [], _∷_}
+use mathlib.Core.List.{List}
 use Prim.Native.Nat.{ℕ, _<_}
 use native.Mathlib.Omega.{arith}
 use lib.ListN.{length}
@@ -66,8 +66,8 @@ module _ (d e : Design) (masks : List ℕ) (f : Follows d e (maskAt masks)) wher
       }
 
   -- what a cycle needs: the words put at the inputs have equal cared bits, and the words at the registers are tied
-  module _ (words words′ : ℕ → ℕ) (board board′ : List ℕ) (size : length board ≡ d .count) (size′ : length board′ ≡ e .count) (tied : Tied d masks board board′)
-      (inputs : (i : ℕ) → i < d .count → roleAt d i ≡ Input → Agree (maskAt masks i) (words i) (words′ i)) where
+  module _ (words words′ : ℕ → ℕ) (board board′ : List ℕ) (size : length board ≡ d .count) (size′ : length board′ ≡ e .count)
+      (tied : Tied d masks board board′) (inputs : (i : ℕ) → i < d .count → roleAt d i ≡ Input → Agree (maskAt masks i) (words i) (words′ i)) where
     by-role : (i : ℕ) → i < d .count → (role : Role) → roleAt d i ≡ role → isHeld role ≡ true
         → Agree (D i) (putWord role (words i) (wordAt board i)) (putWord role (words′ i) (wordAt board′ i))
     by-role i h Input q held = agree-within (meet-left (maskAt masks i) (d .at i .keep)) (inputs i h q)

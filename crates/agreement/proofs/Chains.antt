@@ -1,6 +1,6 @@
 -- The accepted calls of a run as a chain: each goes on from the board list that the one before it left, and refused calls leave no trace.
 -- Assumes nothing.
-use mathlib.Core.Path.{_≡_, refl, sym, ap, subst, _∙_}
+use mathlib.Core.Path.{_≡_, refl}
 use mathlib.Core.List.{List, [], _∷_, _++_}
 use Prim.Native.Nat.{ℕ, suc}
 use Rattle.netlist.specs.Layout.{designOf}

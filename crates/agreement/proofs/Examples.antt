@@ -16,5 +16,7 @@ use Rattle.bits.specs.Words.{lengthIn}
 use Rattle.agreement.specs.Examples.{table, definedOf, saidOf}
 
 pub examples : definedOf table ≡ saidOf table
-unfolding table definedOf saidOf wordsFrom wordsOf sumTo kindOf operandsOf codeAt widthAt fieldsAt keepAt recordAt designOf headerRules namesRules operandRules widthRulesAt fieldRules wordRules recordRules firstBroken refuseAt checkFrom checkOf asked resultAt callAfter masksCall grant roundTo settle leastAbove masksOf answerAfter wideFrom wordsAnswer cycleWith valuesTo valuesOf nextOf lengthIn onesIn
+unfolding table definedOf saidOf onesIn lengthIn wordsFrom wordsOf sumTo kindOf operandsOf codeAt widthAt fieldsAt keepAt recordAt designOf
+    headerRules namesRules operandRules widthRulesAt fieldRules wordRules recordRules firstBroken refuseAt checkFrom checkOf asked resultAt
+    callAfter masksCall grant roundTo settle leastAbove masksOf answerAfter wideFrom wordsAnswer cycleWith valuesTo valuesOf nextOf
 examples = refl

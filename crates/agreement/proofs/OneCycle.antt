@@ -1,13 +1,11 @@
 -- Two cycles, one of a design and one of a design that follows it, with values changed outside the masks: where the words at inputs and
 -- registers agree on D, all values agree on the masks. Assumes nothing.
-use mathlib.Core.Path.{_≡_, sym, ap, subst, _∙_}
-use mathlib.Core.Bool.{true, false}
-use mathlib.Core.Logic.{_⊎_, inl, inr}
+use mathlib.Core.Path.{_≡_, sym, subst}
+use mathlib.Core.Bool.{true}
 use mathlib.Core.List.{List, [], _∷_}
-use Prim.Native.Nat.{ℕ, zero, suc, _^_, _≤_, _<_}
-use native.Mathlib.Nat.{eq-or-lt-of-le, not-suc-le-zero}
+use Prim.Native.Nat.{ℕ, zero, suc, _^_, _<_}
+use native.Mathlib.Nat.{not-suc-le-zero}
 use native.Mathlib.Omega.{arith}
-use lib.Bits.{bitAnd}
 use lib.ListN.{length, set}
 use lib.Seq.{getD-set-same, getD-set-other}
 use Rattle.bits.specs.Lists.{wordAt}
@@ -22,7 +20,7 @@ use Rattle.signal.specs.Held.{Named}
 use Rattle.signal.specs.Results.{resultAt}
 use Rattle.signal.specs.declared.asks.Ask.{Ask}
 use Rattle.signal.proofs.AskedOperands.{asked-below}
-use Rattle.signal.proofs.ResultLaws.{Met, AllMet, result-agree}
+use Rattle.signal.proofs.ResultLaws.{AllMet, result-agree}
 use Rattle.care.specs.Least.{Closed, maskAt}
 use Rattle.clock.specs.Values.{unchanged, valueAt, valuesOf}
 use Rattle.clock.proofs.ValueLaws.{length-values, value-defined, values-narrow}
@@ -43,8 +41,9 @@ all-met d M i x x′ below (a ∷ asks) n g =
     let c = below (a .operand) (n .0) in
     (record { agree = agree-within (g .0) (c .agree); first = c .first; second = c .second }, all-met d M i x x′ below asks (n .1) (g .1))
 
-module _ (d e : Design) (sd : Sound d) (se : Sound e) (masks : List ℕ) (seed : ℕ → ℕ) (closed : Closed d seed (maskAt masks)) (f : Follows d e (maskAt masks))
-    (change : ℕ → ℕ → ℕ) (g : Gentle d masks change) (board board′ : List ℕ) (size : length board ≡ d .count) (size′ : length board′ ≡ e .count)
+module _ (d e : Design) (sd : Sound d) (se : Sound e) (masks : List ℕ) (seed : ℕ → ℕ) (closed : Closed d seed (maskAt masks))
+    (f : Follows d e (maskAt masks)) (change : ℕ → ℕ → ℕ) (g : Gentle d masks change) (board board′ : List ℕ)
+    (size : length board ≡ d .count) (size′ : length board′ ≡ e .count)
     (held : (i : ℕ) → i < d .count → isHeld (roleAt d i) ≡ true → Agree (caredOf (d .at i) (maskAt masks i)) (wordAt board i) (wordAt board′ i)) where
   abbrev values : List ℕ
   values = valuesOf d unchanged board

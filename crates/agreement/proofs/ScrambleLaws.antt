@@ -1,12 +1,12 @@
 -- What scrambling does to a value: the bits of the mask stay, no bit beyond the width is set, and all others can become anything.
 -- Assumes nothing.
-use mathlib.Core.Path.{_≡_, refl, sym, ap, ap₂, _∙_}
+use mathlib.Core.Path.{_≡_, ap, ap₂, _∙_}
 use mathlib.Core.List.{List}
 use mathlib.Core.Logic.{_⊎_, inl, inr}
 use Prim.Native.Nat.{ℕ, _^_, _≤_, _<_, min, max}
 use native.Mathlib.Omega.{arith}
-use lib.Bits.{bitAnd, bitOr, bitXor, differ, or-lt, xor-lt}
-use Rattle.bits.specs.Masks.{bit, Within, Agree}
+use lib.Bits.{bitAnd, differ, or-lt, xor-lt}
+use Rattle.bits.specs.Masks.{bit, Agree}
 use Rattle.bits.specs.Words.{lowMask}
 use Rattle.bits.proofs.Agreement.{agree-refl, agree-by-bits, agree-bit}
 use Rattle.bits.proofs.Digits.{bit-lt, bit-cases, bits-ext, bit-and, bit-or, bit-xor, bit-low, bit-beyond}
@@ -59,7 +59,9 @@ scramble-narrow w m noise value h =
     (within-lt w (meet-right noise (outside w m)) (outside-lt w m))
   where
     outside-lt : (w m : ℕ) → outside w m < 2 ^ w
-    outside-lt w m = xor-lt w (lowMask w) (bitAnd m (lowMask w)) (low-within w (within-refl (lowMask w))) (within-lt w (meet-right m (lowMask w)) (low-within w (within-refl (lowMask w))))
+    outside-lt w m =
+        let low = low-within w (within-refl (lowMask w)) in
+        xor-lt w (lowMask w) (bitAnd m (lowMask w)) low (within-lt w (meet-right m (lowMask w)) low)
 
 -- and any word within the width that agrees on the mask can come out
 pub scramble-any : (w m value other : ℕ) → value < 2 ^ w → other < 2 ^ w → Agree m other value → scramble w m other value ≡ other

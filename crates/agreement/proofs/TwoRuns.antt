@@ -1,12 +1,12 @@
 -- The claim about two whole runs: for any masks that are closed and lie within the widths, and so for the masks of the design.
 -- Assumes nothing.
 use mathlib.Core.Path.{_≡_, refl, sym, ap, subst, _∙_}
-use mathlib.Core.Bool.{Bool, true, false, cond}
+use mathlib.Core.Bool.{cond}
 use mathlib.Core.List.{List, [], _∷_}
 use Prim.Native.Nat.{ℕ, zero, suc, _<_}
 use native.Mathlib.Nat.{le-of-suc-le-suc, not-suc-le-zero}
 use native.Mathlib.Omega.{arith}
-use lib.ListN.{length, getD, drop}
+use lib.ListN.{length, drop}
 use Rattle.bits.specs.Lists.{wordAt}
 use Rattle.bits.specs.Masks.{Agree, Within}
 use Rattle.bits.specs.Words.{lowMask}
@@ -21,12 +21,11 @@ use Rattle.rules.specs.declared.check.Checked.the-variants.{Accepted}
 use Rattle.rules.proofs.Acceptance.{accepted}
 use Rattle.care.specs.Least.{Closed, outputSeed, maskAt, masksOf}
 use Rattle.care.proofs.LeastMasks.{masks-least}
-use Rattle.clock.specs.Call.{startCall, cycleWith}
-use Rattle.clock.specs.Values.{unchanged, valuesOf, nextOf, startOf}
+use Rattle.clock.specs.Values.{unchanged, valuesOf, nextOf}
 use Rattle.clock.proofs.Promises.{start-left, values-left, next-left, cycle-sound, board-length}
-use Rattle.agreement.specs.Claim.{Version, fileOf, Supposed, Agreeing, RunsAgree, TwoRuns}
+use Rattle.agreement.specs.Claim.{fileOf, RunsAgree, TwoRuns}
 use Rattle.agreement.specs.Runs.{Cycle, Step, started, cycled, withInputs, kindsOf, cyclesOf, cycleAt}
-use Rattle.agreement.specs.Scrambled.{Manner, plain, changeIn}
+use Rattle.agreement.specs.Scrambled.{plain, changeIn}
 use Rattle.agreement.proofs.Between.{Tied, tied-first, tied-start, tied-next, held-agree}
 use Rattle.agreement.proofs.Chains.{StartedFrom, CycledFrom, Chain, chain-of}
 use Rattle.agreement.proofs.Follow.{Follows, follows}
@@ -37,7 +36,8 @@ use Rattle.agreement.proofs.ScrambleLaws.{Gentle, gentle}
 -- "the words put at each input in the j-th accepted cycles have equal cared bits"
 abbrev Inputs : Design → List ℕ → List Step → List Step → Type 0
 Inputs d masks first second =
-    (j i : ℕ) → j < length (cyclesOf first) → i < d .count → roleAt d i ≡ Input → Agree (maskAt masks i) (cycleAt first j .words i) (cycleAt second j .words i)
+    (j i : ℕ) → j < length (cyclesOf first) → i < d .count → roleAt d i ≡ Input
+    → Agree (maskAt masks i) (cycleAt first j .words i) (cycleAt second j .words i)
 
 -- in the j-th accepted cycles all values are close
 abbrev AllClose : Design → List ℕ → List Step → List Step → Type 0
@@ -81,8 +81,8 @@ module _ (file file′ masks : List ℕ) (sound : Sound (designOf file)) (seed :
         let inner = length-inputs d (c .words) board in
         let inner′ = length-inputs e (c′ .words) board′ in
         rw (values-are, values-are′)
-        (cycle-close d e sound (cycle-sound (s′ .change) file′ put′ (s′ .next) (s′ .accepted)) masks seed closed f (s′ .change) (s′ .changed) put put′ size size′
-        (held-agree d e masks f (c .words) (c′ .words) board board′ (sym inner ∙ size) (sym inner′ ∙ size′) tied inputs) i h)
+        (cycle-close d e sound (cycle-sound (s′ .change) file′ put′ (s′ .next) (s′ .accepted)) masks seed closed f (s′ .change) (s′ .changed)
+        put put′ size size′ (held-agree d e masks f (c .words) (c′ .words) board board′ (sym inner ∙ size) (sym inner′ ∙ size′) tied inputs) i h)
 
     after-tied : Tied d masks after after′
     after-tied =

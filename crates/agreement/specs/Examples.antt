@@ -7,10 +7,10 @@ use Rattle.bits.specs.Bytes.{bytes}
 use Rattle.bits.specs.Lists.{wordsOf}
 use Rattle.bits.specs.Words.{lowMask}
 use Rattle.netlist.specs.Refusals.{numberOf}
-use Rattle.care.specs.Call.{MasksCall, masksCall}
+use Rattle.care.specs.Call.{masksCall}
 use Rattle.care.specs.declared.tally.Tallied.{Tallied}
 use Rattle.care.specs.declared.tally.Tallied.the-variants.{Done, Refused}
-use Rattle.clock.specs.Call.{CycleCall, cycleCall}
+use Rattle.clock.specs.Call.{cycleCall}
 
 -- The bytes of a record: kind, width, a, b, c, k and keep word. "All keep words are full unless stated."
 abbrev kept : ℕ → ℕ → ℕ → ℕ → ℕ → ℕ → ℕ → List ℕ

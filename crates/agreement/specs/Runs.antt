@@ -2,7 +2,7 @@
 -- Assumes nothing.
 use mathlib.Core.Bool.{Bool, true, false}
 use mathlib.Core.List.{List, [], _∷_, _++_}
-use Prim.Native.Nat.{ℕ, zero, suc}
+use Prim.Native.Nat.{ℕ, suc}
 use lib.ListN.{length, getD}
 use Rattle.bits.specs.Lists.{wordAt, wordsOf}
 use Rattle.netlist.specs.Layout.{Design, designOf}

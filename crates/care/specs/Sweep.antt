@@ -1,7 +1,7 @@
 -- What the functions below `raise` promise to each other. No public promise mentions it.
 -- Assumes nothing.
 use mathlib.Core.Path.{_≡_}
-use mathlib.Core.Bool.{cond, not, _&&_}
+use mathlib.Core.Bool.{cond}
 use mathlib.Core.List.{List, [], _∷_}
 use Prim.Native.Nat.{ℕ, suc, _+_, _≤_, _<_, min, max}
 use lib.Bits.{bitOr}

@@ -7,7 +7,6 @@ use native.Mathlib.Omega.{arith}
 use Rattle.netlist.specs.Layout.{designOf}
 use Rattle.netlist.specs.declared.refusal.Refusal.{Refusal}
 use Rattle.rules.specs.Check.{checkOf}
-use Rattle.rules.specs.Sound.{Acceptance}
 use Rattle.rules.specs.declared.check.Checked.the-variants.{Accepted, Refused}
 use Rattle.rules.proofs.Acceptance.{accepted, few, refused-low}
 use Rattle.care.specs.Call.{tallyOf}

@@ -1,6 +1,6 @@
 -- Which records are asked: a record whose own word does not count asks records below it, and a register asks its a for D.
 -- Assumes nothing. The crates above use these laws and look at no kind.
-use mathlib.Core.Path.{_≡_, ap, subst}
+use mathlib.Core.Path.{_≡_, ap}
 use mathlib.Core.Bool.{false}
 use mathlib.Core.List.{[], _∷_}
 use Prim.Native.Nat.{ℕ, _<_}

@@ -1,25 +1,21 @@
 -- What a call of trim comes to, in the paper's words: it writes the masks and a file in which only keep words changed, and a refused call
 -- changes nothing. Assumes nothing.
-use mathlib.Core.Path.{_≡_, refl, sym, ap, subst}
-use mathlib.Core.Bool.{Bool, true, false, cond}
+use mathlib.Core.Path.{_≡_, sym, ap, subst}
 use mathlib.Core.List.{List}
 use Prim.Native.Nat.{ℕ, _<_}
-use native.Mathlib.Omega.{arith}
-use lib.Dec.{eqb}
 use lib.ListN.{length}
 use Rattle.netlist.specs.Layout.{designOf, byteAt, countOf, keepAt, recordAt}
 use Rattle.netlist.specs.declared.refusal.Refusal.{Refusal}
-use Rattle.netlist.specs.declared.refusal.Refusal.the-variants.{BadDestination}
 use Rattle.signal.specs.Asks.{caredOf}
 use Rattle.rules.specs.Check.{checkOf}
 use Rattle.rules.specs.Sound.{SameDesign}
 use Rattle.rules.specs.declared.check.Checked.the-variants.{Accepted}
-use Rattle.care.specs.Call.{MasksCall, tallyOf, fillMasks, masksCall}
+use Rattle.care.specs.Call.{MasksCall, tallyOf, masksCall}
 use Rattle.care.specs.Least.{maskAt, masksOf}
 use Rattle.care.specs.declared.tally.Tallied.{Tallied}
-use Rattle.care.specs.declared.tally.Tallied.the-variants.{Done, Refused}
+use Rattle.care.specs.declared.tally.Tallied.the-variants.{Refused}
 use Rattle.care.proofs.Promises.{filled}
-use Rattle.trim.specs.Call.{TrimCall, trimAnswer, leaves, trimAfter, trimCall}
+use Rattle.trim.specs.Call.{TrimCall, leaves, trimAfter, trimCall}
 use Rattle.trim.specs.Trimmed.{trimmed, trimDesign, Outside}
 use Rattle.trim.proofs.CallLaws.{written, trim-done}
 use Rattle.trim.proofs.Trimmed.{byte-same, size-same, keep-cut, holds-cut, trim-accepted}

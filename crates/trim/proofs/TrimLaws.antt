@@ -42,7 +42,8 @@ module _ (file masks : List ℕ) where
   pub trim-outside : (n p : ℕ) → Outside n p → byteAt (trimTo file masks n) p ≡ byteAt file p
   unfolding trimTo
   trim-outside zero p h = refl
-  trim-outside (suc n) p h = stored-outside (bytes 8 (newKeep file masks n)) (trimTo file masks n) _ p (h n (omega arith)) ∙ trim-outside n p (λ i g. h i (omega arith))
+  trim-outside (suc n) p h =
+      stored-outside (bytes 8 (newKeep file masks n)) (trimTo file masks n) _ p (h n (omega arith)) ∙ trim-outside n p (λ i g. h i (omega arith))
 
   -- "the new keep word is D"
   pub trim-keep : (n j : ℕ) → j < n → recordStart n ≤ length file → caredOf (recordAt file j) (maskAt masks j) < 2 ^ 64

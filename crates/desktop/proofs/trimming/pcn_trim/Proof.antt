@@ -1,121 +1,131 @@
 -- `desktop::trimming::pcn_trim` meets its contract: the four ends of a call, each as one number and the buffers it leaves.
 -- Assumes nothing.
-use Rattle.desktop.proofs.AnswerLaws.{buffer-low, tally-fits, record-low}
-use Rattle.desktop.specs.Answer.{refusedAnswer, tallyAnswer, talliedAnswer}
-use Rattle.desktop.specs.Buffers.{masksBuffer, fillBuffer}
-use Rattle.trim.proofs.CallLaws.{trim-refused, trim-bad-destination, trim-done, all-of}
+use mathlib.Core.Path.{sym, ap, _∙_}
+use Prim.Native.Nat.{ℕ, _*_}
+use native.Mathlib.Omega.{arith}
+use lib.Dec.{lit<}
+use borrow.Author.Needs.{needs}
+use denote.Ref.{now}
+use Rattle.netlist.specs.Layout.{designOf}
 use Rattle.rules.proofs.Acceptance.{accepted}
 use Rattle.care.proofs.CallLaws.{call-refused, call-bad-list, call-filled}
-use Rattle.netlist.specs.Layout.{designOf}
-use denote.Ref.{now}
-use lib.Dec.{lit<}
-use native.Mathlib.Omega.{arith}
-use Prim.Native.Nat.{ℕ, _*_}
-use mathlib.Core.Path.{sym, ap, _∙_}
-use borrow.Author.Needs.{needs}
+use Rattle.trim.proofs.CallLaws.{trim-refused, trim-bad-destination, trim-done, all-of}
+use Rattle.desktop.specs.Answer.{refusedAnswer, tallyAnswer, talliedAnswer}
+use Rattle.desktop.specs.Buffers.{masksBuffer, fillBuffer}
+use Rattle.desktop.proofs.AnswerLaws.{buffer-low, tally-fits, record-low}
 use Rattle.desktop.proofs.trimming.pcn_trim.Statement.{statement}
 use Rattle.desktop.proofs.trimming.pcn_trim.Tie as tie
-use Rattle.desktop.proofs.trimming.pcn_trim.Reads as reads
-use Rattle.desktop.proofs.trimming.pcn_trim.Lts as lts
-use Rattle.desktop.proofs.answer.refused.Reads as refused-reads
-use Rattle.desktop.proofs.answer.tallied.Reads as tallied-reads
-use Rattle.desktop.proofs.trimming.trim_buffers.Reads as trim-buffers-reads
-use Rattle.netlist.proofs.refusal.Refusal.number.Reads as number-reads
-use Rattle.rules.proofs.check.check.Reads as check-reads
 
--- src/trimming.rt:44:11
 check-requires : tie.Need-check-requires
 check-requires c κs = tt
 
--- src/trimming.rt:45:27
 enum-known-n : tie.Need-enum-known-n
 enum-known-n c = c .match .keys1
 
--- src/trimming.rt:46:31
 mul-if1 : tie.Need-mul-if1
-mul-if1 c = let l = buffer-low (now (c .before .before .before .before .before .before .before .args .file)) _ (sym (c .before .before .before .check .ensures) ∙ c .before .n .given .1) in omega arith
+mul-if1 c = let args = c .before .before .before .before .before .before .before .args in
+    let l = buffer-low (now (args .file)) _ (sym (c .before .before .before .check .ensures) ∙ c .before .n .given .1) in
+    omega arith
 
--- src/trimming.rt:47:32
 number-requires : tie.Need-number-requires
 number-requires c κs = tt
 
--- src/trimming.rt:47:17
 refused-requires : tie.Need-refused-requires
 refused-requires c κs = (c .number .ensures .1, lit< tt)
 
--- src/trimming.rt:47:17
 returns : tie.Need-returns
 unfolding talliedAnswer masksBuffer
-returns c = let file = now (c .before .before .before .before .before .before .before .before .before .before .args .file) in
-    let masks = now (c .before .before .before .before .before .before .before .before .before .before .args .masks) in
-    let b = all-of _ _ (trim-refused _ file masks (now (c .before .before .before .before .before .before .before .before .before .before .args .destination))
-    (call-bad-list (λ n. 8 * n) file (fillBuffer (designOf file)) masks (sym (c .before .before .before .before .before .before .check .ensures) ∙ c .before .before .before .before .n .given .1) (λ q. let t = c .before .before .if1 .taken in omega arith))) in
+returns c = let args = c .before .before .before .before .before .before .before .before .before .before .args in
+    let check = c .before .before .before .before .before .before .check in
+    let n = c .before .before .before .before .n in
+    let file = now (args .file) in
+    let masks = now (args .masks) in
+    let b = all-of _ _ (trim-refused _ file masks (now (args .destination))
+    (call-bad-list (λ n. 8 * n) file (fillBuffer (designOf file)) masks (sym (check .ensures) ∙ n .given .1)
+    (λ q. let t = c .before .before .if1 .taken in omega arith))) in
     (c .refused .ensures ∙ ap (λ (n : ℕ). refusedAnswer n 0) (c .before .number .ensures .0) ∙ ap talliedAnswer (b .0), b .1)
 
--- src/trimming.rt:50:32
 number-requires-2 : tie.Need-number-requires-2
 number-requires-2 c κs = tt
 
--- src/trimming.rt:50:17
 refused-requires-2 : tie.Need-refused-requires-2
 refused-requires-2 c κs = (c .number2 .ensures .1, lit< tt)
 
--- src/trimming.rt:50:17
 returns-2 : tie.Need-returns-2
 unfolding talliedAnswer masksBuffer
-returns-2 c = let file = now (c .before .before .before .before .before .before .before .before .before .before .before .args .file) in
-    let masks = now (c .before .before .before .before .before .before .before .before .before .before .before .args .masks) in
-    let b = all-of _ _ (trim-bad-destination _ file masks (now (c .before .before .before .before .before .before .before .before .before .before .before .args .destination))
-    (call-filled (λ n. 8 * n) file (fillBuffer (designOf file)) masks (sym (c .before .before .before .before .before .before .before .check .ensures) ∙ c .before .before .before .before .before .n .given .1) (let t = c .before .before .before .if1 .left in omega arith))
-    (λ q. let t = c .before .before .if2 .taken in omega arith)) in
+returns-2 c = let args = c .before .before .before .before .before .before .before .before .before .before .before .args in
+    let check = c .before .before .before .before .before .before .before .check in
+    let n = c .before .before .before .before .before .n in
+    let file = now (args .file) in
+    let masks = now (args .masks) in
+    let b = all-of _ _ (trim-bad-destination _ file masks (now (args .destination))
+    (call-filled (λ n. 8 * n) file (fillBuffer (designOf file)) masks (sym (check .ensures) ∙ n .given .1)
+    (let t = c .before .before .before .if1 .left in omega arith)) (λ q. let t = c .before .before .if2 .taken in omega arith)) in
     (c .refused2 .ensures ∙ ap (λ (n : ℕ). refusedAnswer n 0) (c .before .number2 .ensures .0) ∙ ap talliedAnswer (b .0), b .1)
 
--- src/trimming.rt:52:21
 trim-buffers-requires : tie.Need-trim-buffers-requires
-trim-buffers-requires c κs = (accepted (now (c .before .before .before .before .before .before .before .before .before .before .before .args .file)) _ (sym (c .before .before .before .before .before .before .before .check .ensures) ∙ c .before .before .before .before .before .n .given .1), let t = c .before .before .before .if1 .left in omega arith, let t = c .before .before .if2 .left in omega arith)
+trim-buffers-requires c κs = let args = c .before .before .before .before .before .before .before .before .before .before .before .args in
+    let check = c .before .before .before .before .before .before .before .check in
+    let n = c .before .before .before .before .before .n in (
+      accepted (now (args .file)) _ (sym (check .ensures)
+          ∙ n .given .1),
+      let t = c .before .before .before .if1 .left in omega arith,
+      let t = c .before .before .if2 .left in omega arith,
+    )
 
--- src/trimming.rt:52:13
 tallied-requires : tie.Need-tallied-requires
-tallied-requires c κs = tally-fits (now (c .before .before .before .before .before .before .before .before .before .before .before .before .before .before .before .before .args .file)) _ (sym (c .before .before .before .before .before .before .before .before .before .before .before .before .check .ensures) ∙ c .before .before .before .before .before .before .before .before .before .before .n .given .1) (c .before .before .before .before .trim-buffers .ensures .0)
+tallied-requires c κs = let args = c .before .before .before .before .before .before .before .before .before .before .before .before .before .before
+    .before .before .args in
+    let check = c .before .before .before .before .before .before .before .before .before .before .before .before .check in
+    let n = c .before .before .before .before .before .before .before .before .before .before .n in
+    let trim-buffers = c .before .before .before .before .trim-buffers in
+    tally-fits (now (args .file)) _ (sym (check .ensures) ∙ n .given .1) (trim-buffers .ensures .0)
 
--- src/trimming.rt:54:26
 enum-known-r : tie.Need-enum-known-r
 enum-known-r c = c .match .keys2
 
--- src/trimming.rt:54:43
 number-requires-3 : tie.Need-number-requires-3
 number-requires-3 c κs = tt
 
--- src/trimming.rt:54:35
 refused-requires-3 : tie.Need-refused-requires-3
-refused-requires-3 c κs = (c .number3 .ensures .1, record-low (now (c .before .before .before .before .before .before .before .before .args .file)) _ _ (sym (c .before .before .before .before .check .ensures) ∙ c .before .before .r .given .1))
+refused-requires-3 c κs = let args = c .before .before .before .before .before .before .before .before .args in
+    let check = c .before .before .before .before .check in
+    (c .number3 .ensures .1, record-low (now (args .file)) _ _ (sym (check .ensures) ∙ c .before .before .r .given .1))
 
--- src/trimming.rt:38:1
 same-length : tie.Need-same-length
 same-length c = search needs
 
--- src/trimming.rt:38:1
 same-length-2 : tie.Need-same-length-2
 same-length-2 c = search needs
 
--- src/trimming.rt:38:1
 returns-3 : tie.Need-returns-3
 unfolding talliedAnswer masksBuffer
-returns-3 c = let file = now (c .before .before .before .before .before .before .before .before .before .before .before .before .before .before .before .before .before .args .file) in
-    let masks = now (c .before .before .before .before .before .before .before .before .before .before .before .before .before .before .before .before .before .args .masks) in
-    let b = all-of _ _ (trim-done _ file masks (now (c .before .before .before .before .before .before .before .before .before .before .before .before .before .before .before .before .before .args .destination))
-    (call-filled (λ n. 8 * n) file (fillBuffer (designOf file)) masks (sym (c .before .before .before .before .before .before .before .before .before .before .before .before .before .check .ensures) ∙ c .before .before .before .before .before .before .before .before .before .before .before .n .given .1) (let t = c .before .before .before .before .before .before .before .before .before .if1 .left in omega arith))
-    (let t = c .before .before .before .before .before .before .before .before .if2 .left in omega arith)) in
-    (c .tallied .ensures ∙ ap tallyAnswer (c .before .before .before .before .before .trim-buffers .ensures .0) ∙ ap talliedAnswer (b .0), (c .before .before .before .before .before .trim-buffers .ensures .1 .0 ∙ b .1 .0, c .before .before .before .before .before .trim-buffers .ensures .1 .1 ∙ b .1 .1))
+returns-3 c = let args = c .before .before .before .before .before .before .before .before .before .before .before .before .before .before .before
+    .before .before .args in
+    let check = c .before .before .before .before .before .before .before .before .before .before .before .before .before .check in
+    let n = c .before .before .before .before .before .before .before .before .before .before .before .n in
+    let if1 = c .before .before .before .before .before .before .before .before .before .if1 in
+    let if2 = c .before .before .before .before .before .before .before .before .if2 in
+    let trim-buffers = c .before .before .before .before .before .trim-buffers in
+    let file = now (args .file) in
+    let masks = now (args .masks) in
+    let b = all-of _ _ (trim-done _ file masks (now (args .destination))
+    (call-filled (λ n. 8 * n) file (fillBuffer (designOf file)) masks (sym (check .ensures) ∙ n .given .1) (let t = if1 .left in omega arith))
+    (let t = if2 .left in omega arith)) in (
+      c .tallied .ensures ∙ ap tallyAnswer (trim-buffers .ensures .0) ∙ ap talliedAnswer (b .0),
+      (trim-buffers .ensures .1 .0 ∙ b .1 .0, trim-buffers .ensures .1 .1 ∙ b .1 .1),
+    )
 
--- src/trimming.rt:38:1
 returns-4 : tie.Need-returns-4
 unfolding talliedAnswer masksBuffer
-returns-4 c = let file = now (c .before .before .before .before .before .before .before .before .before .args .file) in
-    let masks = now (c .before .before .before .before .before .before .before .before .before .args .masks) in
-    let b = all-of _ _ (trim-refused _ file masks (now (c .before .before .before .before .before .before .before .before .before .args .destination))
-    (call-refused (λ n. 8 * n) file (fillBuffer (designOf file)) masks (sym (c .before .before .before .before .before .check .ensures) ∙ c .before .before .before .r .given .1))) in
-    (c .refused3 .ensures ∙ ap (λ (n : ℕ). refusedAnswer n (c .before .before .before .r .given .0 .1 .0)) (c .before .number3 .ensures .0) ∙ ap talliedAnswer (b .0), b .1)
+returns-4 c = let args = c .before .before .before .before .before .before .before .before .before .args in
+    let check = c .before .before .before .before .before .check in
+    let r = c .before .before .before .r in
+    let file = now (args .file) in
+    let masks = now (args .masks) in
+    let b = all-of _ _ (trim-refused _ file masks (now (args .destination))
+    (call-refused (λ n. 8 * n) file (fillBuffer (designOf file)) masks (sym (check .ensures) ∙ r .given .1))) in
+    (c .refused3 .ensures ∙ ap (λ (n : ℕ). refusedAnswer n (r .given .0 .1 .0)) (c .before .number3 .ensures .0) ∙ ap talliedAnswer (b .0), b .1)
 
 pub pcn-trim-spec : {M : Type 1} → statement M
 pcn-trim-spec =
