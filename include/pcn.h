@@ -18,7 +18,7 @@ extern "C" {
    Accepted: bit 63 is 0, and the function says what the number means.
    Refused:  bit 63 is 1, bits 32 to 62 hold the refusal number, and bits 0
              to 31 hold the number of the record that was refused. Records
-             are counted from 0. Refusals 1 to 5 and 11 concern no single
+             are counted from 0. Refusals 1 to 5, 11 and 13 concern no single
              record, and their record number is 0. */
 
 #define PCN_REFUSED(answer) ((int)((uint64_t)(answer) >> 63))
@@ -35,8 +35,8 @@ extern "C" {
 /* The refusal numbers.
 
    They are tried in this order: first 1 to 5 for the whole file, then 6 to
-   10 for record 0, then 6 to 10 for record 1, and so on, and at last 11. The
-   first that applies is the answer.
+   10 for record 0, then 6 to 10 for record 1, and so on, then 11, and at last
+   13. The first that applies is the answer.
 
     1  The file is shorter than its header of 8 bytes.
     2  The file does not begin with the letters PCN, or byte 5 is not 0.
@@ -55,6 +55,9 @@ extern "C" {
        bit beyond the width, or so has the value of a constant or the reset
        state of a register.
    11  The mask list has not 8 bytes for each record.
+   13  The destination has not as many bytes as the file.
+
+   Number 12 belongs to the clocking of designs; no function here gives it.
 
    A register may read a record that has not been looked at yet. Refusals 8
    and 9 then go by that record's kind byte and width byte as they stand. */
@@ -70,27 +73,31 @@ enum pcn_refusal {
     PCN_BAD_OPERAND = 8,
     PCN_BAD_WIDTH_RULE = 9,
     PCN_UNUSED_BIT = 10,
-    PCN_BAD_LIST = 11
+    PCN_BAD_LIST = 11,
+    PCN_BAD_DESTINATION = 13
 };
 
 /* Rules for callers.
 
    - `file` must point to `length` bytes that can be read. For length 0 any
      pointer will do that is not null.
-   - `masks` must point to `masks_length` bytes that can be read and written.
-     For length 0 any pointer will do that is not null. They may hold
-     anything before the call.
-   - The mask list and the file may not overlap.
+   - `masks` must point to `masks_length` bytes that can be read and written,
+     and `destination` to `destination_length` such bytes. For length 0 any
+     pointer will do that is not null. They may hold anything before the
+     call.
+   - No two of the file, the mask list and the destination may overlap.
    - Nobody may change these bytes until the call has returned, and nobody
-     may read the mask list until then.
+     may read the mask list or the destination until then.
    - The pointers need no alignment.
-   - Numbers in the file and in the mask list are little-endian.
+   - Numbers in the file, in the mask list and in the destination are
+     little-endian.
 
    What callers may rely on: the functions change no byte but those of the
-   mask list, allocate nothing and keep no state between calls, so several
-   threads may call them at the same time, also for the same file, each with
-   a mask list of its own. A refused call changes no byte at all. pcn_masks
-   takes about 17,000 bytes of the stack. */
+   mask list and of the destination, allocate nothing and keep no state
+   between calls, so several threads may call them at the same time, also for
+   the same file, each with a mask list and a destination of its own. A
+   refused call changes no byte at all. pcn_masks and pcn_trim take about
+   17,000 bytes of the stack. */
 
 /* Checks a netlist file. Accepted: the answer is the count of records. */
 uint64_t pcn_check(const uint8_t *file, size_t length);
@@ -103,6 +110,17 @@ uint64_t pcn_check(const uint8_t *file, size_t length);
    no bit beyond the width of the record. */
 uint64_t pcn_masks(const uint8_t *file, size_t length, uint8_t *masks,
                    size_t masks_length);
+
+/* Writes a file in which the bits that can reach no output are cleared.
+
+   Refused as pcn_masks refuses, and then by 13. Accepted: the answer and the
+   mask list are those of pcn_masks, and all bytes of the destination are
+   written. They are the bytes of the file but for bytes 16 to 23 of each
+   record: the new keep word has the bits that are both in the old one and in
+   the mask. pcn_check accepts the file in the destination. */
+uint64_t pcn_trim(const uint8_t *file, size_t length, uint8_t *masks,
+                  size_t masks_length, uint8_t *destination,
+                  size_t destination_length);
 
 #ifdef __cplusplus
 }

@@ -3,6 +3,7 @@
 
 #include "../../include/pcn.h"
 #include "../model/model.h"
+#include "plain_trim.h"
 #include "rows.h"
 #include "sweeps.h"
 
@@ -27,6 +28,18 @@ static uint64_t plain_masks(const struct lent *lent)
                         lent->list_length);
 }
 
+static uint64_t library_trim(const struct lent *lent)
+{
+    return pcn_trim(lent->file, lent->length, lent->list, lent->list_length,
+                    lent->next, lent->next_length);
+}
+
+static uint64_t trim_in_c(const struct lent *lent)
+{
+    return plain_trim(lent->file, lent->length, lent->list, lent->list_length,
+                      lent->next, lent->next_length);
+}
+
 static const struct row rows[] = {
     { "check, all kinds", library_check, plain_check, all_kinds,
       { 64, 256, 1024, 2048 } },
@@ -35,11 +48,15 @@ static const struct row rows[] = {
     { "masks, combinational", library_masks, plain_masks, combinational,
       { 64, 256, 1024, 2048 } },
     { "masks, 2,000 registers", library_masks, plain_masks, chain,
-      { 2002, 0, 0, 0 } }
+      { 2002, 0, 0, 0 } },
+    { "trim, feedback", library_trim, trim_in_c, feedback,
+      { 64, 256, 1024, 2048 } },
+    { "trim, combinational", library_trim, trim_in_c, combinational,
+      { 64, 256, 1024, 2048 } }
 };
 
 int main(void)
 {
-    return run_rows("the model's check, and for masks whole sweeps in C",
-                    rows, sizeof rows / sizeof *rows) ? 0 : 1;
+    return run_rows("the model's check, and for masks and trim whole sweeps in"
+                    " C", rows, sizeof rows / sizeof *rows) ? 0 : 1;
 }

@@ -7,19 +7,7 @@
 
 #include "../model/model.h"
 #include "../model/record.h"
-
-static inline uint64_t load_64(const uint8_t *bytes)
-{
-    uint64_t word;
-
-    memcpy(&word, bytes, sizeof word);
-    return word;
-}
-
-static inline void store_64(uint8_t *bytes, uint64_t word)
-{
-    memcpy(bytes, &word, sizeof word);
-}
+#include "words.h"
 
 /* The word of the record whose number stands at `p`. */
 static inline uint64_t operand(const uint8_t *list, const uint8_t *p)

@@ -1,5 +1,5 @@
 /* Compares the results of both sides, then times them and prints the rows.
-   Assumes lists of at most COUNT_LIMIT words. */
+   Assumes lists that are no longer than those of the workloads. */
 
 #include "rows.h"
 
@@ -12,7 +12,7 @@
 /* What the two lists of a file held. */
 struct held {
     uint8_t list[8 * COUNT_LIMIT];
-    uint8_t next[8 * COUNT_LIMIT];
+    uint8_t next[LONGEST_FILE];
 };
 
 static void keep_lists(struct held *held, const struct lent *lent)

@@ -7,14 +7,7 @@
 
 #include "../model/model.h"
 #include "../model/record.h"
-
-static inline uint64_t load_64(const uint8_t *bytes)
-{
-    uint64_t word;
-
-    memcpy(&word, bytes, sizeof word);
-    return word;
-}
+#include "words.h"
 
 /* Joins the bits to a mask and gives those that are new. */
 static inline uint64_t ask(uint64_t *masks, uint32_t number, uint64_t bits)

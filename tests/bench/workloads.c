@@ -14,6 +14,7 @@ enum { SEED = 7, MANY_WIDTHS = 56, NOISE = 0x55 };
 static struct netlist net;
 static struct file files[MOST_FILES];
 static uint8_t masks[8 * COUNT_LIMIT];
+static uint8_t destination[LONGEST_FILE];
 static uint8_t boards[MOST_FILES][8 * COUNT_LIMIT];
 static uint8_t nexts[MOST_FILES][8 * COUNT_LIMIT];
 
@@ -31,6 +32,7 @@ static void begin(struct workload *work, uint32_t count)
     work->count = count;
     work->files = 0;
     memset(masks, NOISE, sizeof masks);
+    memset(destination, NOISE, sizeof destination);
 }
 
 static void add_file(struct workload *work)
@@ -43,21 +45,23 @@ static void add_file(struct workload *work)
     lent->length = file->length;
     lent->list = masks;
     lent->list_length = 8 * (size_t)work->count;
-    lent->next = nexts[0];
-    lent->next_length = 0;
+    lent->next = destination;
+    lent->next_length = file->length;
     work->files++;
 }
 
+/* Several designs, so that no branch predictor learns one by heart. */
 void all_kinds(struct workload *work, uint32_t count)
 {
-    struct rng rng = rng_for(SEED, count);
-
     begin(work, count);
-    design_make(&rng, &net, count);
-    add_file(work);
+    while (work->files < MOST_FILES) {
+        struct rng rng = rng_for(SEED + work->files, count);
+
+        design_make(&rng, &net, count);
+        add_file(work);
+    }
 }
 
-/* Several designs, so that no branch predictor learns one by heart. */
 static void styled(struct workload *work, uint32_t count, int style)
 {
     begin(work, count);

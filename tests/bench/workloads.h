@@ -7,10 +7,13 @@
 #include "../outside/lent.h"
 #include "../outside/netlist.h"
 
-enum { MOST_FILES = 8 };
+enum {
+    MOST_FILES = 8,
+    LONGEST_FILE = HEADER_BYTES + RECORD_BYTES * COUNT_LIMIT
+};
 
-/* What is lent for each file: the file itself, and a list for its masks, or
-   a board list and a next list of its own. */
+/* What is lent for each file: the file itself, a list for its masks and a
+   destination, or a board list and a next list of its own. */
 struct workload {
     uint32_t count;
     uint32_t files;
@@ -20,7 +23,7 @@ struct workload {
 /* Each fills the workload with designs of this many records. */
 typedef void workload_maker(struct workload *work, uint32_t count);
 
-workload_maker all_kinds;     /* one design with all kinds alike */
+workload_maker all_kinds;     /* random designs with all kinds alike */
 workload_maker feedback;      /* random designs, many registers */
 workload_maker combinational; /* random designs without registers */
 workload_maker chain;         /* registers that each read the next one */

@@ -107,8 +107,23 @@ uint64_t model_start(const uint8_t *file, size_t length, uint8_t *board,
     return 0;
 }
 
-uint64_t model_cycle(const uint8_t *file, size_t length, uint8_t *board,
-                     size_t board_length, uint8_t *next, size_t next_length)
+/* The values of all records in rising order, each changed at once. */
+static void work_out(const uint8_t *file, uint32_t count, uint8_t *board,
+                     model_change *change, void *context)
+{
+    uint32_t i;
+
+    for (i = 0; i < count; i++) {
+        uint64_t value = result(file, i, board) & read_record(file, i).keep;
+
+        put_word(board, i, change(context, i, value));
+    }
+}
+
+uint64_t model_changed_cycle(const uint8_t *file, size_t length,
+                             uint8_t *board, size_t board_length,
+                             uint8_t *next, size_t next_length,
+                             model_change *change, void *context)
 {
     uint64_t answer = model_check(file, length);
     uint32_t count = (uint32_t)answer, i;
@@ -120,9 +135,7 @@ uint64_t model_cycle(const uint8_t *file, size_t length, uint8_t *board,
     answer = board_refusal(file, count, board);
     if (answer >> 63)
         return answer;
-    for (i = 0; i < count; i++)
-        put_word(board, i,
-                 result(file, i, board) & read_record(file, i).keep);
+    work_out(file, count, board, change, context);
     for (i = 0; i < count; i++) {
         struct record record = read_record(file, i);
 
@@ -130,4 +143,18 @@ uint64_t model_cycle(const uint8_t *file, size_t length, uint8_t *board,
                               ? word_at(board, record.operand[0]) : 0);
     }
     return 0;
+}
+
+static uint64_t unchanged(void *context, uint32_t number, uint64_t value)
+{
+    (void)context;
+    (void)number;
+    return value;
+}
+
+uint64_t model_cycle(const uint8_t *file, size_t length, uint8_t *board,
+                     size_t board_length, uint8_t *next, size_t next_length)
+{
+    return model_changed_cycle(file, length, board, board_length, next,
+                               next_length, unchanged, NULL);
 }

@@ -21,6 +21,12 @@ uint64_t model_check(const uint8_t *file, size_t length);
 uint64_t model_masks(const uint8_t *file, size_t length, uint8_t *masks,
                      size_t masks_length);
 
+/* Fills the mask list, writes the trimmed file to the destination and gives
+   the tally; refused, it leaves both as they were. */
+uint64_t model_trim(const uint8_t *file, size_t length, uint8_t *masks,
+                    size_t masks_length, uint8_t *destination,
+                    size_t destination_length);
+
 /* Writes the reset states into the board list; accepted, it gives 0. Refused,
    it leaves the list as it was. */
 uint64_t model_start(const uint8_t *file, size_t length, uint8_t *board,
@@ -31,5 +37,16 @@ uint64_t model_start(const uint8_t *file, size_t length, uint8_t *board,
    were. */
 uint64_t model_cycle(const uint8_t *file, size_t length, uint8_t *board,
                      size_t board_length, uint8_t *next, size_t next_length);
+
+/* What a record's value is changed to as soon as it is there. */
+typedef uint64_t model_change(void *context, uint32_t number, uint64_t value);
+
+/* The same cycle with changed values: later records, the board list and the
+   next list get what `change` gives. The changed values must stay within the
+   widths. */
+uint64_t model_changed_cycle(const uint8_t *file, size_t length,
+                             uint8_t *board, size_t board_length,
+                             uint8_t *next, size_t next_length,
+                             model_change *change, void *context);
 
 #endif

@@ -10,11 +10,12 @@
 #include "clock_trial.h"
 #include "designs.h"
 #include "guard.h"
+#include "neighbours.h"
 #include "port.h"
 #include "report.h"
 #include "trial.h"
 
-enum { ROOM = 8 * COUNT_LIMIT, PLACES = 16, ORDERS = 6 };
+enum { ROOM = 8 * COUNT_LIMIT, PLACES = 16 };
 
 static struct netlist net;
 static struct file file;
@@ -81,23 +82,6 @@ static void alignments(void)
         try_placing(&placing);
     }
     test_end();
-}
-
-/* Where the file, the board list and the next list begin in one block, for
-   each of the orders that they may have. */
-static void place_three(int order, const size_t *lengths, size_t *places)
-{
-    static const int orders[ORDERS][3] = {
-        { 0, 1, 2 }, { 0, 2, 1 }, { 1, 0, 2 },
-        { 1, 2, 0 }, { 2, 0, 1 }, { 2, 1, 0 }
-    };
-    size_t at = 0;
-    int i;
-
-    for (i = 0; i < 3; i++) {
-        places[orders[order][i]] = at;
-        at += lengths[orders[order][i]];
-    }
 }
 
 /* All three can be written here, so a change of the file, or of one list

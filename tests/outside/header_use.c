@@ -30,3 +30,20 @@ long unfelt_bits(const uint8_t *file, size_t length, uint8_t *masks,
         return PCN_REFUSAL(answer) == PCN_BAD_LIST ? -1 : -2;
     return (long)PCN_TALLY_WIDTH(answer) - (long)PCN_TALLY_ONES(answer);
 }
+
+/* Whether the file was trimmed; 0 when a list does not fit and -1 when the
+   file itself is refused. */
+int trimmed(const uint8_t *file, size_t length, uint8_t *masks,
+            size_t masks_length, uint8_t *destination);
+
+int trimmed(const uint8_t *file, size_t length, uint8_t *masks,
+            size_t masks_length, uint8_t *destination)
+{
+    uint64_t answer = pcn_trim(file, length, masks, masks_length, destination,
+                               length);
+
+    if (!PCN_REFUSED(answer))
+        return 1;
+    return PCN_REFUSAL(answer) == PCN_BAD_LIST
+                || PCN_REFUSAL(answer) == PCN_BAD_DESTINATION ? 0 : -1;
+}

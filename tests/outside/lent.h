@@ -8,7 +8,8 @@
 #include <stdint.h>
 
 /* A file to read, and the lists to fill if the operation fills any: one of
-   masks or a board list, and for a cycle the next list as well. */
+   masks or a board list, and then the next list of a cycle or the destination
+   of a trim. */
 struct lent {
     const uint8_t *file;
     size_t length;

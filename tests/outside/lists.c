@@ -18,20 +18,10 @@ void lists_fit(struct lists *lists, uint32_t count)
     lists->next_length = 8 * (size_t)count;
 }
 
-static void noise(uint8_t *list, size_t length, struct rng *rng)
-{
-    size_t i;
-
-    for (i = 0; i + 8 <= length; i += 8)
-        write_64(list + i, rng_word(rng));
-    for (; i < length; i++)
-        list[i] = (uint8_t)rng_word(rng);
-}
-
 void lists_noise(struct lists *lists, struct rng *rng)
 {
-    noise(lists->board, lists->board_length, rng);
-    noise(lists->next, lists->next_length, rng);
+    rng_fill(rng, lists->board, lists->board_length);
+    rng_fill(rng, lists->next, lists->next_length);
 }
 
 void lists_noise_elsewhere(struct lists *lists, struct rng *rng,
@@ -39,7 +29,7 @@ void lists_noise_elsewhere(struct lists *lists, struct rng *rng,
 {
     uint32_t i;
 
-    noise(lists->next, lists->next_length, rng);
+    rng_fill(rng, lists->next, lists->next_length);
     for (i = 0; i < net->count; i++)
         if (!kind_is_given(net->records[i].kind))
             put_board_word(lists, i, rng_word(rng));

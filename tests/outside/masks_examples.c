@@ -33,7 +33,7 @@ static void ramp_in_bytes(void)
     uint64_t answer;
 
     test_begin("masks: ramp, file and list given byte by byte");
-    fill_list(list, sizeof list, 0);
+    fill_bytes(list, sizeof list, 0);
     memcpy(file, ramp_bytes, RAMP_BYTES);
     answer = pcn_masks(file, RAMP_BYTES, list, sizeof list);
     demand_answer(answer, 0x000000c000000070u);

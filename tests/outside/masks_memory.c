@@ -50,7 +50,7 @@ static void try_placing(const struct placing *placing)
                          0 };
     uint64_t answer = 0;
 
-    fill_list(list, list_length, placing->list_away);
+    fill_bytes(list, list_length, placing->list_away);
     if (!guarded_call(library_masks, &lent, placing, &answer) && test_fail())
         printf("      stepped outside with %lu bytes, edge %d, %lu and %lu"
                " away\n", (unsigned long)file.length, (int)placing->edge,
@@ -114,7 +114,7 @@ static void neighbours(void)
         bytes = list_first ? block + list_length : block;
         list = list_first ? block : block + file.length;
         memcpy(bytes, file.bytes, file.length);
-        fill_list(list, list_length, count);
+        fill_bytes(list, list_length, count);
         demand_list(list, pcn_masks(bytes, file.length, list, list_length));
         if (memcmp(bytes, file.bytes, file.length) != 0)
             test_fail();
@@ -152,7 +152,7 @@ static void huge_list(uint32_t count)
 
     make_file(500 + count, count);
     length = list_length + 0x100000000u;
-    fill_list(before, list_length, count);
+    fill_bytes(before, list_length, count);
     list = sparse_bytes(before, list_length, length);
     if (list == NULL) {
         test_fail();

@@ -5,23 +5,19 @@
 
 #include <inttypes.h>
 #include <stdio.h>
-#include <stdlib.h>
-#include <string.h>
 
 #include "../../include/pcn.h"
 #include "../model/model.h"
 #include "closed.h"
-#include "guard.h"
 #include "report.h"
-#include "rng.h"
+#include "sides.h"
 #include "trial.h"
 
-enum { LIST_ROOM = 8 * 65535 + 64, PLACES = 16 };
+enum { LIST_ROOM = 8 * 65535 + 64 };
 
-/* What the lists hold before the call, and what each call left there. */
+/* What the list holds before the call, and what the last call left there. */
 static uint8_t before[LIST_ROOM];
-static uint8_t at_end[LIST_ROOM];
-static uint8_t at_front[LIST_ROOM];
+static struct left left;
 static struct file scratch;
 
 uint64_t library_masks(const struct lent *lent)
@@ -29,87 +25,28 @@ uint64_t library_masks(const struct lent *lent)
     return pcn_masks(lent->file, lent->length, lent->list, lent->list_length);
 }
 
-void fill_list(uint8_t *list, size_t length, unsigned long trial)
+static uint64_t plain_masks(const struct lent *lent)
 {
-    struct rng rng = rng_for(3, trial);
-    size_t i;
-
-    for (i = 0; i + 8 <= length; i += 8)
-        write_64(list + i, rng_word(&rng));
-    for (; i < length; i++)
-        list[i] = (uint8_t)rng_word(&rng);
+    return model_masks(lent->file, lent->length, lent->list,
+                       lent->list_length);
 }
 
-/* One guarded call on the list as it was before. */
-static int call_at(const uint8_t *bytes, size_t length, uint8_t *list,
-                   size_t list_length, const struct placing *placing,
-                   uint64_t *answer)
-{
-    struct lent lent = { bytes, length, list, list_length, NULL, 0 };
-
-    memcpy(list, before, list_length);
-    return guarded_call(library_masks, &lent, placing, answer);
-}
-
-/* Calls the library twice, with the memory against a forbidden page behind
-   it and in front of it. What is wrong with the two calls, or null. */
-static const char *call_fault(const uint8_t *bytes, size_t length,
-                              size_t list_length, uint64_t *answer)
-{
-    static const struct placing end = { AT_END, 0, 0, 0 };
-    struct placing front = { AT_FRONT, 0, 0, 0 };
-    uint64_t again;
-
-    front.file_away = trials_made() % PLACES;
-    front.list_away = trials_made() / PLACES % PLACES;
-    if (!call_at(bytes, length, at_end, list_length, &end, answer)
-        || !call_at(bytes, length, at_front, list_length, &front, &again))
-        return "the library stepped outside its memory or wrote to the file";
-    if (again != *answer || memcmp(at_end, at_front, list_length) != 0)
-        return "two calls for the same bytes differ";
-    if (PCN_REFUSED(*answer) && memcmp(at_end, before, list_length) != 0)
-        return "a refused call changed the list";
-    return NULL;
-}
-
-/* The first byte where the library's list is not the model's, or null. */
-static const char *difference(const uint8_t *model_list, size_t list_length)
-{
-    static char text[100];
-    size_t i = 0;
-
-    while (i < list_length && model_list[i] == at_end[i])
-        i++;
-    if (i == list_length)
-        return NULL;
-    sprintf(text, "byte %lu of mask %lu is %02x, in the model's list %02x",
-            (unsigned long)(i % 8), (unsigned long)(i / 8), at_end[i],
-            model_list[i]);
-    return text;
-}
+static const struct sides masks_sides = {
+    library_masks, plain_masks, "mask list", ""
+};
 
 /* Runs one trial; `known` is the answer both must give, or null. */
 static uint64_t run_trial(const uint8_t *bytes, size_t length,
                           size_t list_length, const uint64_t *known)
 {
     struct verdict verdict = { NULL, 0, 0, known, NULL, 0 };
-    void *file_block, *list_block;
-    uint8_t *file, *list;
+    struct lent lent = { bytes, length, before, list_length, NULL, 0 };
 
-    fill_list(before, list_length, trials_made());
-    file = heap_copy(bytes, length, &file_block);
-    list = heap_copy(before, list_length, &list_block);
-    verdict.fault = call_fault(bytes, length, list_length, &verdict.library);
-    verdict.model = model_masks(file, length, list, list_length);
-    if (verdict.fault == NULL && !PCN_REFUSED(verdict.model)
-        && !PCN_REFUSED(verdict.library))
-        verdict.fault = list_fault(bytes, at_end, verdict.library);
-    judge_answers(&verdict);
-    if (verdict.fault == NULL)
-        verdict.fault = difference(list, list_length);
+    fill_bytes(before, list_length, trials_made());
+    left = call_sides(&masks_sides, &lent, &verdict);
+    if (verdict.fault == NULL && !PCN_REFUSED(verdict.library))
+        verdict.fault = list_fault(bytes, left.list, verdict.library);
     trial_end(bytes, length, &verdict);
-    free(file_block);
-    free(list_block);
     return verdict.model;
 }
 
@@ -128,7 +65,7 @@ static void read_masks(uint64_t *masks, uint32_t count)
     uint32_t i;
 
     for (i = 0; i < count; i++)
-        masks[i] = read_64(at_end + 8 * (size_t)i);
+        masks[i] = read_64(left.list + 8 * (size_t)i);
 }
 
 void try_netlist(const struct netlist *net, uint64_t *masks)

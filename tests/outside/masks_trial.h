@@ -13,10 +13,6 @@
 /* pcn_masks as an operation on lent memory. */
 operation library_masks;
 
-/* The bytes that a list holds before a call; they differ from one trial to
-   the next. */
-void fill_list(uint8_t *list, size_t length, unsigned long trial);
-
 /* Compares the library with the model for a list of this length, answer and
    every byte, and gives the model's answer. */
 uint64_t try_masks(const uint8_t *bytes, size_t length, size_t list_length);

@@ -4,7 +4,9 @@
 #ifndef RNG_H
 #define RNG_H
 
+#include <stddef.h>
 #include <stdint.h>
+#include <string.h>
 
 struct rng {
     uint64_t state;
@@ -46,6 +48,20 @@ static inline uint32_t rng_between(struct rng *rng, uint32_t low,
 static inline int rng_once_in(struct rng *rng, uint32_t times)
 {
     return rng_below(rng, times) == 0;
+}
+
+/* Any bytes. */
+static inline void rng_fill(struct rng *rng, uint8_t *bytes, size_t length)
+{
+    size_t i;
+
+    for (i = 0; i + 8 <= length; i += 8) {
+        uint64_t word = rng_word(rng);
+
+        memcpy(bytes + i, &word, 8);
+    }
+    for (; i < length; i++)
+        bytes[i] = (uint8_t)rng_word(rng);
 }
 
 #endif

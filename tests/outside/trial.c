@@ -10,6 +10,7 @@
 
 #include "../../include/pcn.h"
 #include "report.h"
+#include "rng.h"
 
 static uint64_t run_seed;
 static const char *save_directory = ".";
@@ -24,6 +25,13 @@ void trials_begin(uint64_t seed, const char *directory)
 unsigned long trials_made(void)
 {
     return made;
+}
+
+void fill_bytes(uint8_t *bytes, size_t length, unsigned long trial)
+{
+    struct rng rng = rng_for(3, trial);
+
+    rng_fill(&rng, bytes, length);
 }
 
 uint8_t *heap_copy(const uint8_t *bytes, size_t length, void **block)

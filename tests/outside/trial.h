@@ -24,6 +24,10 @@ void trials_begin(uint64_t seed, const char *directory);
 /* The count of trials so far. */
 unsigned long trials_made(void);
 
+/* The bytes that lent memory holds before a call; they differ from one trial
+   to the next. */
+void fill_bytes(uint8_t *bytes, size_t length, unsigned long trial);
+
 /* A heap block of exactly this length, so that the address sanitizer sees a
    step beyond it. For length 0 the pointer is just behind a block. */
 uint8_t *heap_copy(const uint8_t *bytes, size_t length, void **block);

@@ -1,6 +1,7 @@
 -- The table of examples: what the definitions give is what the paper says, by computation.
 -- Assumes nothing.
 use mathlib.Core.Path.{_≡_, refl}
+use mathlib.Core.List.{[], _∷_}
 use lib.Count.{onesIn}
 use Rattle.bits.specs.Lists.{wordsFrom, wordsOf, sumTo}
 use Rattle.netlist.specs.Kinds.{kindOf, operandsOf}
@@ -10,13 +11,21 @@ use Rattle.signal.specs.Asks.{asked}
 use Rattle.signal.specs.Results.{resultAt}
 use Rattle.care.specs.Call.{callAfter, masksCall}
 use Rattle.care.specs.Least.{grant, roundTo, settle, leastAbove, masksOf}
-use Rattle.clock.specs.Call.{answerAfter, wideFrom, wordsAnswer, cycleWith}
-use Rattle.clock.specs.Values.{valuesTo, valuesOf, nextOf}
+use Rattle.clock.specs.Call.{answerAfter, wideFrom, wordsAnswer, startCall, cycleWith}
+use Rattle.clock.specs.Values.{valuesTo, valuesOf, nextOf, startOf}
 use Rattle.bits.specs.Words.{lengthIn}
-use Rattle.agreement.specs.Examples.{table, definedOf, saidOf}
+use Rattle.agreement.specs.Runs.{withInputs, callOn, runFrom, cyclesOf}
+use Rattle.agreement.specs.Examples.{table, definedOf, saidOf, swappedRun}
 
 pub examples : definedOf table ≡ saidOf table
 unfolding table definedOf saidOf onesIn lengthIn wordsFrom wordsOf sumTo kindOf operandsOf codeAt widthAt fieldsAt keepAt recordAt designOf
     headerRules namesRules operandRules widthRulesAt fieldRules wordRules recordRules firstBroken refuseAt checkFrom checkOf asked resultAt
     callAfter masksCall grant roundTo settle leastAbove masksOf answerAfter wideFrom wordsAnswer cycleWith valuesTo valuesOf nextOf
 examples = refl
+
+-- runs compute, too: the registers exchange their values, and the refused call leaves no trace
+pub run-example : swappedRun ≡ (1 ∷ 2 ∷ []) ∷ (2 ∷ 1 ∷ []) ∷ []
+unfolding swappedRun runFrom callOn cyclesOf withInputs startCall startOf wordsFrom wordsOf kindOf operandsOf codeAt widthAt fieldsAt keepAt recordAt
+    designOf headerRules namesRules operandRules widthRulesAt fieldRules wordRules recordRules firstBroken refuseAt checkFrom checkOf resultAt
+    answerAfter wideFrom wordsAnswer cycleWith valuesTo valuesOf nextOf
+run-example = refl

@@ -11,6 +11,8 @@ use Rattle.care.specs.Call.{masksCall}
 use Rattle.care.specs.declared.tally.Tallied.{Tallied}
 use Rattle.care.specs.declared.tally.Tallied.the-variants.{Done, Refused}
 use Rattle.clock.specs.Call.{cycleCall}
+use Rattle.clock.specs.Values.{unchanged}
+use Rattle.agreement.specs.Runs.{start, cycle, Cycle, runOf, cyclesOf}
 
 -- The bytes of a record: kind, width, a, b, c, k and keep word. "All keep words are full unless stated."
 abbrev kept : ℕ → ℕ → ℕ → ℕ → ℕ → ℕ → ℕ → List ℕ
@@ -71,7 +73,7 @@ abbrev unreadMux : List ℕ
 unreadMux = fileWith (input 1 ∷ input 8 ∷ input 8 ∷ mux 8 0 1 2 ∷ [])
 
 abbrev swapped : List ℕ
-swapped = fileWith (register 8 1 0 ∷ register 8 0 0 ∷ [])
+swapped = fileWith (register 8 1 1 ∷ register 8 0 2 ∷ [])
 
 abbrev difference : List ℕ
 difference = fileWith (constant 8 0 ∷ constant 8 1 ∷ sub 8 0 1 ∷ [])
@@ -123,3 +125,13 @@ definedOf (row ∷ rows) = row .defined ∷ definedOf rows
 unfoldable pub saidOf : List Row → List (List ℕ)
 saidOf [] = []
 saidOf (row ∷ rows) = row .said ∷ saidOf rows
+
+-- A run of the swapped registers, not from 01: a start, a cycle that 11 refuses, and two cycles. The values of its accepted cycles.
+abbrev valuesIn : List Cycle → List (List ℕ)
+valuesIn [] = []
+valuesIn (c ∷ cs) = c .values ∷ valuesIn cs
+
+unfoldable pub swappedRun : List (List ℕ)
+swappedRun =
+    let calls = start ∷ cycle (λ i. 0) [] ∷ cycle (λ i. 0) (7 ∷ 7 ∷ []) ∷ cycle (λ i. 0) (0 ∷ 0 ∷ []) ∷ [] in
+    valuesIn (cyclesOf (runOf (λ j. unchanged) swapped (9 ∷ 9 ∷ []) calls))

@@ -1,0 +1,32 @@
+/* The scrambling of 01: bits outside the masks are set to anything.
+   Assumes masks within the widths, those of the design. */
+
+#ifndef SCRAMBLE_H
+#define SCRAMBLE_H
+
+#include <stdint.h>
+
+#include "../model/model.h"
+#include "netlist.h"
+#include "rng.h"
+
+/* What a scrambled run needs, and how often it changed a value of each
+   kind. */
+struct scrambler {
+    const struct netlist *net;
+    const uint64_t *masks;
+    struct rng rng;
+    unsigned long changed[KIND_COUNT];
+};
+
+void scrambler_begin(struct scrambler *scrambler, const struct netlist *net,
+                     const uint64_t *masks, struct rng rng);
+
+/* The change of a run whose context is a scrambler. */
+model_change scramble;
+
+/* A word with the cared bits of this one, the others within the width being
+   anything. */
+uint64_t alike(struct rng *rng, uint64_t word, uint64_t mask, unsigned width);
+
+#endif
