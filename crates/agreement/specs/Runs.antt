@@ -29,11 +29,12 @@ putWord Gate word old = old
 unfoldable pub withInputs : Design → (ℕ → ℕ) → List ℕ → List ℕ
 withInputs d words board = wordsOf (λ i. putWord (roleAt d i) (words i) (wordAt board i)) (length board)
 
--- An accepted cycle: the words put at the inputs, and the values, which the old board list holds afterwards. An accepted call.
+-- An accepted cycle: the words put at the inputs, and the values, which the old board list holds afterwards.
 pub record Cycle : Type 0 where
   pub words : ℕ → ℕ
   pub values : List ℕ
 
+-- An accepted call.
 pub data Step : Type 0 where
   started : Step
   cycled : Cycle → Step
