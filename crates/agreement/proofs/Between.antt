@@ -14,7 +14,7 @@ use Rattle.netlist.specs.Kinds.{isHeld}
 use Rattle.netlist.specs.Layout.{Design}
 use Rattle.netlist.specs.declared.record.Role.{Role}
 use Rattle.netlist.specs.declared.record.Role.the-variants.{Input, Register, Output, Gate}
-use Rattle.rules.specs.Check.{roleAt}
+use Rattle.fit.specs.Fit.{roleAt}
 use Rattle.rules.specs.Sound.{Sound}
 use Rattle.rules.proofs.SoundLaws.{register-loads}
 use Rattle.signal.specs.Asks.{caredOf, Granted}

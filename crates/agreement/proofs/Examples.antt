@@ -6,7 +6,8 @@ use lib.Count.{onesIn}
 use Rattle.bits.specs.Lists.{wordsFrom, wordsOf, sumTo}
 use Rattle.netlist.specs.Kinds.{kindOf, operandsOf}
 use Rattle.netlist.specs.Layout.{codeAt, widthAt, fieldsAt, keepAt, recordAt, designOf}
-use Rattle.rules.specs.Check.{headerRules, namesRules, operandRules, widthRulesAt, fieldRules, wordRules, recordRules, firstBroken, refuseAt, checkFrom, checkOf}
+use Rattle.fit.specs.Fit.{namesRules, operandRules, widthRulesAt, fieldRules, wordRules}
+use Rattle.rules.specs.Check.{headerRules, recordRules, firstBroken, refuseAt, checkFrom, checkOf}
 use Rattle.signal.specs.Asks.{asked}
 use Rattle.signal.specs.Results.{resultAt}
 use Rattle.care.specs.Call.{callAfter, masksCall}

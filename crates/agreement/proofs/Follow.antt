@@ -10,7 +10,8 @@ use Rattle.netlist.specs.Kinds.{usesOf}
 use Rattle.netlist.specs.Layout.{Design, designOf}
 use Rattle.netlist.specs.declared.record.Kind.{Kind}
 use Rattle.netlist.specs.declared.record.Record.{Record}
-use Rattle.rules.specs.Check.{roleAt, checkOf}
+use Rattle.fit.specs.Fit.{roleAt}
+use Rattle.rules.specs.Check.{checkOf}
 use Rattle.rules.specs.Sound.{Sound, SameDesign}
 use Rattle.rules.specs.declared.check.Checked.the-variants.{Accepted}
 use Rattle.rules.proofs.SoundLaws.{operands-below}

@@ -13,7 +13,7 @@ use Rattle.bits.specs.Masks.{Agree}
 use Rattle.bits.proofs.Agreement.{agree-refl, agree-sym, agree-trans, agree-within, agree-keep, agree-and}
 use Rattle.netlist.specs.Kinds.{isHeld}
 use Rattle.netlist.specs.Layout.{Design}
-use Rattle.rules.specs.Check.{roleAt}
+use Rattle.fit.specs.Fit.{roleAt}
 use Rattle.rules.specs.Sound.{Sound}
 use Rattle.signal.specs.Asks.{caredOf, asked, Granted}
 use Rattle.signal.specs.Held.{Named}

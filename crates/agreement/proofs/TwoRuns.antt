@@ -15,7 +15,8 @@ use Rattle.netlist.specs.Kinds.{isOutput}
 use Rattle.netlist.specs.Layout.{Design, designOf}
 use Rattle.netlist.specs.declared.record.Role.{Role}
 use Rattle.netlist.specs.declared.record.Role.the-variants.{Input, Output}
-use Rattle.rules.specs.Check.{roleAt, checkOf}
+use Rattle.fit.specs.Fit.{roleAt}
+use Rattle.rules.specs.Check.{checkOf}
 use Rattle.rules.specs.Sound.{Sound}
 use Rattle.rules.specs.declared.check.Checked.the-variants.{Accepted}
 use Rattle.rules.proofs.Acceptance.{accepted}

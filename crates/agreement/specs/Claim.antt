@@ -8,7 +8,8 @@ use Rattle.bits.specs.Lists.{wordAt}
 use Rattle.bits.specs.Masks.{Agree}
 use Rattle.netlist.specs.Layout.{Design, designOf}
 use Rattle.netlist.specs.declared.record.Role.the-variants.{Input, Register, Output}
-use Rattle.rules.specs.Check.{roleAt, checkOf}
+use Rattle.fit.specs.Fit.{roleAt}
+use Rattle.rules.specs.Check.{checkOf}
 use Rattle.rules.specs.declared.check.Checked.the-variants.{Accepted}
 use Rattle.care.specs.Least.{maskAt, masksOf}
 use Rattle.trim.specs.Trimmed.{trimmedBy}

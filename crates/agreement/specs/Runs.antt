@@ -8,7 +8,7 @@ use Rattle.bits.specs.Lists.{wordAt, wordsOf}
 use Rattle.netlist.specs.Layout.{Design, designOf}
 use Rattle.netlist.specs.declared.record.Role.{Role}
 use Rattle.netlist.specs.declared.record.Role.the-variants.{Input, Register, Output, Gate}
-use Rattle.rules.specs.Check.{roleAt}
+use Rattle.fit.specs.Fit.{roleAt}
 use Rattle.clock.specs.Call.{startCall, cycleWith}
 use Rattle.clock.specs.declared.cycle.Clocked.{Clocked}
 use Rattle.clock.specs.declared.cycle.Clocked.the-variants.{Done, Refused}

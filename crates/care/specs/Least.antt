@@ -15,7 +15,7 @@ use Rattle.netlist.specs.Layout.{Design}
 use Rattle.netlist.specs.declared.record.Role.{Role}
 use Rattle.signal.specs.Asks.{asked, Granted}
 use Rattle.signal.specs.declared.asks.Ask.{Ask}
-use Rattle.rules.specs.Check.{roleAt}
+use Rattle.fit.specs.Fit.{roleAt}
 
 -- A family gives each signal a mask. A family M is closed if it has every bit of a seed, which is what it has to begin with, and every bit
 -- that a record asks for under M.

@@ -11,7 +11,7 @@ use Rattle.netlist.specs.Layout.{designOf, countOf}
 use Rattle.netlist.specs.declared.refusal.Refusal.{Refusal}
 use Rattle.netlist.specs.declared.refusal.Refusal.the-variants.{BadList}
 use Rattle.rules.specs.Sound.{Sound}
-use Rattle.rules.specs.Check.{roleAt}
+use Rattle.fit.specs.Fit.{roleAt}
 use Rattle.rules.specs.declared.check.Checked.{Checked}
 use Rattle.rules.specs.declared.check.Checked.the-variants.{Accepted, Refused as refused}
 use Rattle.rules.proofs.Acceptance.{accepted}

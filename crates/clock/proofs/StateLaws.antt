@@ -12,7 +12,7 @@ use Rattle.bits.proofs.ListLaws.{length-words, word-at}
 use Rattle.netlist.specs.Layout.{Design, designOf}
 use Rattle.netlist.specs.declared.record.Role.{Role}
 use Rattle.netlist.specs.declared.record.Role.the-variants.{Input, Register, Output, Gate}
-use Rattle.rules.specs.Check.{roleAt}
+use Rattle.fit.specs.Fit.{roleAt}
 use Rattle.rules.specs.Sound.{Sound, Acceptance}
 use Rattle.rules.proofs.SoundLaws.{register-loads}
 use Rattle.clock.specs.Call.{wordIsWide, isWide}

@@ -16,7 +16,7 @@ use Rattle.bits.specs.Masks.{Within}
 use Rattle.bits.proofs.Order.{meet-right, within-lt}
 use Rattle.netlist.specs.Kinds.{isHeld}
 use Rattle.netlist.specs.Layout.{Design}
-use Rattle.rules.specs.Check.{roleAt}
+use Rattle.fit.specs.Fit.{roleAt}
 use Rattle.rules.specs.Sound.{Sound}
 use Rattle.signal.specs.Results.{resultAt}
 use Rattle.signal.proofs.ResultLaws.{result-same}

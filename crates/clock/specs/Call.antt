@@ -10,7 +10,8 @@ use Rattle.netlist.specs.Kinds.{isHeld}
 use Rattle.netlist.specs.Layout.{Design, designOf}
 use Rattle.netlist.specs.declared.record.Role.{Role}
 use Rattle.netlist.specs.declared.refusal.Refusal.the-variants.{BadList, WideWord}
-use Rattle.rules.specs.Check.{roleAt, checkOf}
+use Rattle.fit.specs.Fit.{roleAt}
+use Rattle.rules.specs.Check.{checkOf}
 use Rattle.rules.specs.declared.check.Checked.{Checked}
 use Rattle.rules.specs.declared.check.Checked.the-variants.{Accepted, Refused as refused}
 use Rattle.clock.specs.Values.{unchanged, valuesOf, nextOf, startOf}

@@ -8,7 +8,7 @@ use Rattle.bits.specs.Lists.{wordAt, wordsOf}
 use Rattle.netlist.specs.Layout.{Design}
 use Rattle.netlist.specs.declared.record.Role.{Role}
 use Rattle.netlist.specs.declared.record.Role.the-variants.{Input, Register, Output, Gate}
-use Rattle.rules.specs.Check.{roleAt}
+use Rattle.fit.specs.Fit.{roleAt}
 use Rattle.signal.specs.Results.{resultAt}
 
 -- "The board list has n words of 64 bits. Before a cycle it holds each pin's word at its input and each state at its register; other words

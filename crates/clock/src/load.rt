@@ -6,7 +6,7 @@ ghost use mathlib.Core.Path.{_≡_};
 ghost use Prim.Native.Nat.{_<_};
 ghost use lib.ListN.{length};
 ghost use Rattle.netlist.specs.Layout.{designOf, countOf};
-ghost use Rattle.rules.specs.Check.{roleAt};
+ghost use Rattle.fit.specs.Fit.{roleAt};
 ghost use Rattle.rules.specs.Sound.{Acceptance};
 ghost use Rattle.clock.specs.Values.{nextWord, nextOf};
 

@@ -12,7 +12,8 @@ use Rattle.bits.specs.Bytes.{numberAt, bytes}
 use Rattle.netlist.specs.Kinds.{codeOf, usesOf}
 use Rattle.netlist.specs.Layout.{designOf, recordAt, codeAt, widthAt, fieldsAt, keepAt, countOf, byteAt, recordStart}
 use Rattle.netlist.proofs.KindLaws.{code-back}
-use Rattle.rules.specs.Check.{checkOf, headerRules, recordRules, fieldRules}
+use Rattle.fit.specs.Fit.{fieldRules}
+use Rattle.rules.specs.Check.{checkOf, headerRules, recordRules}
 use Rattle.rules.specs.Encode.{encode, encodeFrom, encodeRecord, AreBytes}
 use Rattle.rules.specs.declared.check.Checked.the-variants.{Accepted}
 use Rattle.rules.proofs.Acceptance.{accepted, accepted-kept}

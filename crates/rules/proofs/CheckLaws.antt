@@ -16,7 +16,8 @@ use Rattle.netlist.specs.declared.record.Role.{Role}
 use Rattle.netlist.specs.declared.record.Role.the-variants.{Input, Register, Output, Gate}
 use Rattle.netlist.specs.declared.record.Uses.{Uses}
 use Rattle.netlist.proofs.Tests.{tests-hold, hold-tests}
-use Rattle.rules.specs.Check.{firstBroken, refuseAt, checkFrom, recordRules, operandLimit, namesRules, operandRules, widthRulesAt, wordRules}
+use Rattle.fit.specs.Fit.{operandLimit, namesRules, operandRules, widthRulesAt, wordRules}
+use Rattle.rules.specs.Check.{firstBroken, refuseAt, checkFrom, recordRules}
 use Rattle.rules.specs.declared.check.Verdict.{Verdict}
 use Rattle.rules.specs.declared.check.Verdict.the-variants.{Pass, Fail}
 

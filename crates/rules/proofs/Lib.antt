@@ -5,5 +5,4 @@ pub mod Canonical
 pub mod CheckLaws
 pub mod Encoded
 pub mod EncodedBytes
-pub mod OperandLaws
 pub mod SoundLaws

@@ -20,10 +20,10 @@ use Rattle.netlist.specs.declared.record.Role.the-variants.{Register as registe
 use Rattle.netlist.specs.declared.record.Uses.{Uses}
 use Rattle.netlist.proofs.KindLaws.{padded, is-register}
 use Rattle.netlist.proofs.Tests.{hold-tests}
-use Rattle.rules.specs.Check.{roleAt, operandLimit, namesRules, operandRules, widthRulesAt}
+use Rattle.fit.specs.Fit.{roleAt, operandLimit, namesRules, operandRules, widthRulesAt}
 use Rattle.rules.specs.Sound.{Sound, SoundRecord, SameDesign}
 use Rattle.rules.proofs.CheckLaws.{limit-le}
-use Rattle.rules.proofs.OperandLaws.{operand-below}
+use Rattle.fit.proofs.OperandLaws.{operand-below}
 
 -- the operand fields of what a kind uses lie below n
 pub record OperandsBelow (u : Uses) (n : ℕ) : Type 0 where

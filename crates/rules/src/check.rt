@@ -1,14 +1,17 @@
 // The check of a file: the header's rules, each record's rules in rising order, and the operation `check`.
 // `check` asks nothing of its caller; the functions below it ask that the records lie within the file.
-use crate::fit::*;
+use fit::operands::*;
+use fit::widths::*;
+use fit::words::*;
 use netlist::layout::*;
 use netlist::record::Record;
 use netlist::refusal::Refusal;
 ghost use mathlib.Core.Path.{_≡_};
 ghost use Prim.Native.Nat.{_≤_, _<_};
 ghost use lib.ListN.{length};
-ghost use Rattle.netlist.specs.Layout.{recordStart, countOf};
-ghost use Rattle.rules.specs.Check.{headerRules, recordRules, firstBroken, checkFrom, checkOf};
+ghost use Rattle.netlist.specs.Layout.{headerSize, recordStart, countOf};
+ghost use Rattle.netlist.specs.Rules.{testAll};
+ghost use Rattle.rules.specs.Check.{markRules, headerRules, recordRules, firstBroken, checkFrom, checkOf};
 
 // What the rules say of a header or of a record.
 pub enum Verdict {
@@ -20,6 +23,14 @@ pub enum Verdict {
 pub enum Checked {
     Accepted(usize),
     Refused(Refusal, usize),
+}
+
+// The mark `PCN`, and the zero byte after the version.
+fn marked(file: &[u8]) -> bool
+    requires { ⌜ headerSize ≤ length (now file) ⌝ }
+    ensures { λ r. ⌜ r ≡ testAll (markRules (now (file .entry))) ⌝ }
+{
+    file[0] == 0x50 && (file[1] == 0x43 && (file[2] == 0x4e && file[5] == 0))
 }
 
 // Rules 6 to 10, for record i of n.

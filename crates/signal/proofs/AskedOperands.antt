@@ -12,7 +12,7 @@ use Rattle.netlist.specs.declared.record.Kind.the-variants.{Input, Constant, Re
 use Rattle.netlist.specs.declared.record.Record.{Record}
 use Rattle.netlist.specs.declared.record.Role.the-variants.{Register as register}
 use Rattle.netlist.proofs.KindLaws.{is-register}
-use Rattle.rules.specs.Check.{roleAt, namesRules}
+use Rattle.fit.specs.Fit.{roleAt, namesRules}
 use Rattle.rules.specs.Sound.{Sound}
 use Rattle.signal.specs.Asks.{ask, asksOf, caredOf, asked}
 use Rattle.signal.specs.Held.{Named}

@@ -21,7 +21,7 @@ use Rattle.netlist.specs.declared.record.Kind.the-variants.{Input, Constant, Re
 use Rattle.netlist.specs.declared.record.Record.{Record}
 use Rattle.netlist.specs.declared.record.Role.{Role}
 use Rattle.netlist.specs.declared.record.Role.the-variants.{Input as input, Register as register, Output as output, Gate as gate}
-use Rattle.rules.specs.Check.{roleAt, operandLimit, namesRules, operandRules, widthRulesAt}
+use Rattle.fit.specs.Fit.{roleAt, operandLimit, namesRules, operandRules, widthRulesAt}
 use Rattle.rules.specs.Sound.{Sound}
 use Rattle.rules.proofs.SoundLaws.{operands-below}
 use Rattle.signal.specs.Asks.{ask, allIfAny, asksOf, caredOf, asked}

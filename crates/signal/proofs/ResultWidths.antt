@@ -14,7 +14,7 @@ use Rattle.netlist.specs.Layout.{Design}
 use Rattle.netlist.specs.Rules.{AllHold}
 use Rattle.netlist.specs.declared.record.Kind.{Kind}
 use Rattle.netlist.specs.declared.record.Kind.the-variants.{Input, Constant, Register, Output, Extract, Concat, And, Or, Xor, Mux, Add, Sub, Mul, Equal, Below}
-use Rattle.rules.specs.Check.{widthRulesAt}
+use Rattle.fit.specs.Fit.{widthRulesAt}
 use Rattle.rules.specs.Sound.{Sound}
 use Rattle.rules.proofs.SoundLaws.{operands-below}
 use Rattle.signal.specs.Results.{resultOf, resultAt}

@@ -13,7 +13,8 @@ use Rattle.bits.proofs.Stores.{number-same}
 use Rattle.netlist.specs.Kinds.{usesOf, operandsOf}
 use Rattle.netlist.specs.Layout.{Design, designOf, recordAt, codeAt, widthAt, fieldsAt, keepAt, countOf, byteAt, recordStart}
 use Rattle.netlist.specs.Rules.{AllHold}
-use Rattle.rules.specs.Check.{checkOf, operandLimit, headerRules, recordRules, fieldRules, operandRules, widthRulesAt, wordRules}
+use Rattle.fit.specs.Fit.{operandLimit, fieldRules, operandRules, widthRulesAt, wordRules}
+use Rattle.rules.specs.Check.{checkOf, headerRules, recordRules}
 use Rattle.rules.specs.Sound.{Sound, SoundRecord, SameDesign}
 use Rattle.rules.specs.declared.check.Checked.the-variants.{Accepted}
 use Rattle.rules.proofs.Acceptance.{accepted, accepted-kept, kept-accepted}

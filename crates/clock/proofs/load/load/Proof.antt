@@ -5,7 +5,7 @@ use Prim.Native.Nat.{_-_}
 use native.Mathlib.Omega.{arith}
 use Rattle.bits.proofs.ListLaws.{Filled, filled-none, filled-next, filled-all}
 use Rattle.netlist.specs.Layout.{designOf, countOf}
-use Rattle.rules.specs.Check.{roleAt}
+use Rattle.fit.specs.Fit.{roleAt}
 use Rattle.clock.specs.Values.{nextWord, nextOf}
 use Rattle.clock.proofs.load.load.Statement.{statement}
 use Rattle.clock.proofs.load.load.Tie as tie

@@ -6,7 +6,7 @@ use native.Mathlib.Omega.{arith}
 use denote.Ref.{now}
 use Rattle.bits.proofs.ListLaws.{Filled, filled-none, filled-next, filled-all}
 use Rattle.netlist.specs.Layout.{designOf, countOf}
-use Rattle.rules.specs.Check.{roleAt}
+use Rattle.fit.specs.Fit.{roleAt}
 use Rattle.rules.proofs.Acceptance.{holds-record}
 use Rattle.clock.specs.Values.{startWord, startOf}
 use Rattle.clock.proofs.reset.reset.Statement.{statement}

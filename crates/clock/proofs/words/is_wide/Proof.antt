@@ -6,7 +6,7 @@ use denote.Ref.{now}
 use Rattle.bits.specs.Lists.{wordAt}
 use Rattle.netlist.specs.Layout.{designOf, recordAt}
 use Rattle.netlist.specs.declared.record.Uses.{Uses}
-use Rattle.rules.specs.Check.{roleAt}
+use Rattle.fit.specs.Fit.{roleAt}
 use Rattle.rules.proofs.Acceptance.{holds-record}
 use Rattle.clock.specs.Call.{wordIsWide}
 use Rattle.clock.proofs.words.is_wide.Statement.{statement}

@@ -1,0 +1,4 @@
+-- The laws of the rules within a record.
+-- Assumes nothing.
+pub mod FieldLaws
+pub mod OperandLaws

@@ -1,0 +1,3 @@
+-- The rules within a record.
+-- Assumes nothing.
+pub mod Fit
