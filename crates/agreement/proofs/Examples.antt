@@ -9,7 +9,7 @@ use Rattle.netlist.specs.Layout.{codeAt, widthAt, fieldsAt, keepAt, recordAt, d
 use Rattle.fit.specs.Fit.{namesRules, operandRules, widthRulesAt, fieldRules, wordRules}
 use Rattle.rules.specs.Check.{headerRules, recordRules, firstBroken, refuseAt, checkFrom, checkOf}
 use Rattle.signal.specs.Asks.{asked}
-use Rattle.signal.specs.Results.{resultAt}
+use Rattle.result.specs.Results.{resultAt}
 use Rattle.care.specs.Call.{callAfter, masksCall}
 use Rattle.care.specs.Least.{grant, roundTo, settle, leastAbove, masksOf}
 use Rattle.clock.specs.Call.{answerAfter, wideFrom, wordsAnswer, startCall, cycleWith}

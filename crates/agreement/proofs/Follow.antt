@@ -16,7 +16,7 @@ use Rattle.rules.specs.Sound.{Sound, SameDesign}
 use Rattle.rules.specs.declared.check.Checked.the-variants.{Accepted}
 use Rattle.rules.proofs.SoundLaws.{operands-below}
 use Rattle.signal.specs.Asks.{caredOf}
-use Rattle.signal.specs.Results.{resultAt}
+use Rattle.result.specs.Results.{resultAt}
 use Rattle.care.specs.Least.{maskAt}
 use Rattle.trim.specs.Trimmed.{trimmedBy, trimDesign}
 use Rattle.trim.proofs.Trimmed.{holds-cut}

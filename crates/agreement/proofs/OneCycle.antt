@@ -17,7 +17,7 @@ use Rattle.fit.specs.Fit.{roleAt}
 use Rattle.rules.specs.Sound.{Sound}
 use Rattle.signal.specs.Asks.{caredOf, asked, Granted}
 use Rattle.signal.specs.Held.{Named}
-use Rattle.signal.specs.Results.{resultAt}
+use Rattle.result.specs.Results.{resultAt}
 use Rattle.signal.specs.declared.asks.Ask.{Ask}
 use Rattle.signal.proofs.AskedOperands.{asked-below}
 use Rattle.signal.proofs.ResultLaws.{AllMet, result-agree}

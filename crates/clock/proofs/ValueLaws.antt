@@ -18,7 +18,7 @@ use Rattle.netlist.specs.Kinds.{isHeld}
 use Rattle.netlist.specs.Layout.{Design}
 use Rattle.fit.specs.Fit.{roleAt}
 use Rattle.rules.specs.Sound.{Sound}
-use Rattle.signal.specs.Results.{resultAt}
+use Rattle.result.specs.Results.{resultAt}
 use Rattle.signal.proofs.ResultLaws.{result-same}
 use Rattle.clock.specs.Values.{unchanged, valueAt, valuesTo, valuesOf}
 

@@ -25,7 +25,7 @@ use Rattle.fit.specs.Fit.{roleAt, operandLimit, namesRules, operandRules, width
 use Rattle.rules.specs.Sound.{Sound}
 use Rattle.rules.proofs.SoundLaws.{operands-below}
 use Rattle.signal.specs.Asks.{ask, allIfAny, asksOf, caredOf, asked}
-use Rattle.signal.specs.Results.{resultOf, resultAt}
+use Rattle.result.specs.Results.{resultOf, resultAt}
 use Rattle.signal.specs.declared.asks.Ask.{Ask}
 
 -- ---- what two runs have in common at an operand

@@ -1,5 +1,4 @@
--- What one record means: its result from its operands, and what it asks of them.
+-- What one record asks of its operands.
 -- Assumes nothing.
-pub mod Results
 pub mod Asks
 pub mod Held

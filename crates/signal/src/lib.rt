@@ -1,4 +1,3 @@
-// The meaning of one record: its result from its operands, and what it asks of them.
-// What is known of a kind beyond its record and its check stands here.
+// What one record asks of its operands, kind by kind, and the laws that join it to the record's result.
+// `asks::asked` asks for an accepted file and a record of it.
 pub mod asks;
-pub mod result;

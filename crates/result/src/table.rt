@@ -18,7 +18,7 @@ ghost use Rattle.bits.specs.Lists.{wordAt};
 ghost use Rattle.bits.specs.Words.{cut, productAt};
 ghost use Rattle.netlist.specs.Layout.{designOf, countOf};
 ghost use Rattle.rules.specs.Sound.{Acceptance};
-ghost use Rattle.signal.specs.Results.{resultOf, resultAt};
+ghost use Rattle.result.specs.Results.{resultOf, resultAt};
 
 // x above the n bits of y, in w bits.
 fn concat(x: u64, y: u64, n: u64, w: u64) -> u64

@@ -1,8 +1,8 @@
--- `signal::result::result_of` meets its contract: each kind has its line in the definition.
+-- `result::table::result_of` meets its contract: each kind has its line in the definition.
 -- Assumes nothing.
 use native.Mathlib.Omega.{arith}
-use Rattle.signal.proofs.result.result_of.Statement.{statement}
-use Rattle.signal.proofs.result.result_of.Tie as tie
+use Rattle.result.proofs.table.result_of.Statement.{statement}
+use Rattle.result.proofs.table.result_of.Tie as tie
 
 enum-told : tie.Need-enum-told
 enum-told c = c .match .keys1

@@ -1,6 +1,6 @@
 -- No result has more bits than its record, where no word on the board has; so the cut of a concat takes nothing away.
 -- Assumes nothing.
-use mathlib.Core.Path.{_≡_, sym, subst}
+use mathlib.Core.Path.{_≡_, subst}
 use mathlib.Core.Bool.{Bool, true, false, cond}
 use Prim.Native.Nat.{ℕ, _+_, _*_, _^_, _≤_, _<_}
 use native.Mathlib.Nat.{lt-of-lt-of-le, mod-lt, mod-eq-of-lt, mul-le-mul-right, add-mul}
@@ -17,7 +17,7 @@ use Rattle.netlist.specs.declared.record.Kind.the-variants.{Input, Constant, Re
 use Rattle.fit.specs.Fit.{widthRulesAt}
 use Rattle.rules.specs.Sound.{Sound}
 use Rattle.rules.proofs.SoundLaws.{operands-below}
-use Rattle.signal.specs.Results.{resultOf, resultAt}
+use Rattle.result.specs.Results.{resultOf, resultAt}
 
 -- "a above b": nothing of a is lost
 pub concat-exact : (wa wb : ℕ) {x y : ℕ} → x < 2 ^ wa → y < 2 ^ wb → cut (wa + wb) (x * 2 ^ wb + y) ≡ x * 2 ^ wb + y

@@ -1,0 +1,4 @@
+-- The laws of results.
+-- Assumes nothing.
+pub mod Reading
+pub mod ResultWidths

@@ -1,0 +1,3 @@
+-- The results of records.
+-- Assumes nothing.
+pub mod Results
