@@ -25,7 +25,7 @@ use Rattle.care.proofs.LeastMasks.{masks-least}
 use Rattle.clock.specs.Values.{unchanged, valuesOf, nextOf}
 use Rattle.clock.proofs.Promises.{start-left, values-left, next-left, cycle-sound, board-length}
 use Rattle.agreement.specs.Claim.{fileOf, RunsAgree, TwoRuns}
-use Rattle.agreement.specs.Runs.{Cycle, Step, started, cycled, withInputs, kindsOf, cyclesOf, cycleAt}
+use Rattle.agreement.specs.Runs.{runOf, Cycle, Step, started, cycled, withInputs, kindsOf, cyclesOf, cycleAt}
 use Rattle.agreement.specs.Scrambled.{plain, changeIn}
 use Rattle.agreement.proofs.Between.{Tied, tied-first, tied-start, tied-next, held-agree}
 use Rattle.agreement.proofs.Chains.{StartedFrom, CycledFrom, Chain, chain-of}
@@ -128,8 +128,11 @@ pub closed-runs-agree : (file masks : List ℕ) (n : ℕ) → checkOf file ≡ A
 unfolding changeIn
 closed-runs-agree file masks n e closed version manner board board′ calls calls′ supposed =
     let d = designOf file in
+    let first = runOf (changeIn plain d masks) file board calls in
+    let second = runOf (changeIn manner d masks) (fileOf version file masks) board′ calls′ in
     let all =
-    chains-close file (fileOf version file masks) masks (accepted file n e .sound) (outputSeed d) closed (follows version file masks n e) _ _ board board′
+    chains-close file (fileOf version file masks) masks (accepted file n e .sound) (outputSeed d) closed (follows version file masks n e)
+        first second board board′
     (chain-of (λ change. change ≡ unchanged) file (changeIn plain d masks) (λ j. refl) 0 board calls)
     (chain-of (Gentle d masks) (fileOf version file masks) (changeIn manner d masks) (gentle manner d masks) 0 board′ calls′)
     (supposed .kinds) (tied-first d masks board board′ (supposed .registers)) (supposed .inputs) in

@@ -45,7 +45,7 @@ mul-write-64 : tie.Need-mul-write-64 Inv-loop μ-loop
 mul-write-64 c = omega arith
 
 shared-slice-read-write-64 : tie.Need-shared-slice-read-write-64 Inv-loop μ-loop
-shared-slice-read-write-64 c = c .before .before .before .loop-test .taken
+shared-slice-read-write-64 c = let t = c .before .before .before .loop-test .taken in omega arith
 
 keep-at-requires : tie.Need-keep-at-requires Inv-loop μ-loop
 keep-at-requires c κs = let pre = c .before .before .before .before .before .before .before .before .before .before .before .before .pre in
@@ -68,7 +68,7 @@ loop-again c = let start = c .before .before .before .before .before .before .be
     let loop = c .before .before .before .before .before .before .before .before .loop in
     let loop-test = c .before .before .before .before .before .before .before .loop-test in
     let keep-start = c .before .before .before .before .before .before .keep-start in
-    trimming-next _ _ _ _ _ _ _ (loop .inv) (loop-test .taken)
+    trimming-next _ _ _ _ _ _ _ (loop .inv) (let t = loop-test .taken in omega arith)
     (holds-record _ (start .pre .0) (loop .i) (let t = loop-test .taken in let e = start .pre .1 in omega arith)) (keep-start .ensures)
     (ap (bitAnd (maskAt (now (start .args .list)) (loop .i))) (c .before .before .before .keep-at .ensures)) (c .before .before .write-64 .ensures)
 
@@ -77,7 +77,7 @@ same-length c = c .before .loop .inv .size ∙ sym (c .before .before .before .b
 
 returns : tie.Need-returns Inv-loop μ-loop
 returns c = let pre = c .before .before .before .before .before .before .before .before .before .pre in
-    trimming-all _ _ _ _ (c .before .loop .inv) (c .loop-test .left) (pre .1)
+    trimming-all _ _ _ _ (c .before .loop .inv) (let t = c .loop-test .left in omega arith) (pre .1)
 
 pub write-trimmed-spec : {M : Type 1} → statement M
 write-trimmed-spec =
