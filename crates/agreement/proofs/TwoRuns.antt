@@ -132,7 +132,7 @@ closed-runs-agree file masks n e closed version manner board board′ calls call
     let second = runOf (changeIn manner d masks) (fileOf version file masks) board′ calls′ in
     let all =
     chains-close file (fileOf version file masks) masks (accepted file n e .sound) (outputSeed d) closed (follows version file masks n e)
-        first second board board′
+    first second board board′
     (chain-of (λ change. change ≡ unchanged) file (changeIn plain d masks) (λ j. refl) 0 board calls)
     (chain-of (Gentle d masks) (fileOf version file masks) (changeIn manner d masks) (gentle manner d masks) 0 board′ calls′)
     (supposed .kinds) (tied-first d masks board board′ (supposed .registers)) (supposed .inputs) in

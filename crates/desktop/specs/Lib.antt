@@ -1,4 +1,3 @@
 -- What the functions of the desktop answer.
 -- Assumes nothing.
-pub mod Answer
 pub mod Buffers

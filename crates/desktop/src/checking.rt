@@ -1,11 +1,11 @@
 // The check of a file, for C.
 // Nothing is asked of a caller in Rattle.
-use crate::answer::refused;
+use answer::refused;
 use rules::check::Checked;
 use rules::check::check;
 ghost use mathlib.Core.Path.{_≡_};
 ghost use Rattle.rules.specs.Check.{checkOf};
-ghost use Rattle.desktop.specs.Answer.{checkAnswer};
+ghost use Rattle.answer.specs.Answer.{checkAnswer};
 
 // Checks a file: the count of its records, or the refusal and its record.
 #[no_mangle]

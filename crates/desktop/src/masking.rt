@@ -1,7 +1,7 @@
 // The masks of a file as bytes, for C.
 // `pcn_masks` asks nothing of a caller in Rattle; the functions below it ask for an accepted file and room for its masks.
-use crate::answer::refused;
-use crate::answer::tallied;
+use answer::refused;
+use answer::tallied;
 use bits::bytes::write_words;
 use care::masks::fill;
 use care::tally::Tally;
@@ -17,7 +17,7 @@ ghost use Rattle.netlist.specs.Layout.{designOf, countOf};
 ghost use Rattle.rules.specs.Sound.{Acceptance};
 ghost use Rattle.care.specs.Call.{tallyOf};
 ghost use Rattle.care.specs.Least.{masksOf};
-ghost use Rattle.desktop.specs.Answer.{talliedAnswer};
+ghost use Rattle.answer.specs.Answer.{talliedAnswer};
 ghost use Rattle.desktop.specs.Buffers.{masksBuffer};
 
 // Fills a list of n words with the masks of an accepted file, and a buffer of 8 × n bytes with the same.

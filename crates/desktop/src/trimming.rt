@@ -1,8 +1,8 @@
 // The trimmed file and its masks as bytes, for C.
 // `pcn_trim` asks nothing of a caller in Rattle; the function below it asks for an accepted file and room for what is written.
-use crate::answer::refused;
-use crate::answer::tallied;
 use crate::masking::fill_both;
+use answer::refused;
+use answer::tallied;
 use care::tally::Tally;
 use netlist::record::Record;
 use netlist::refusal::Refusal;
@@ -18,7 +18,7 @@ ghost use Rattle.rules.specs.Sound.{Acceptance};
 ghost use Rattle.care.specs.Call.{tallyOf};
 ghost use Rattle.care.specs.Least.{masksOf};
 ghost use Rattle.trim.specs.Trimmed.{trimmed};
-ghost use Rattle.desktop.specs.Answer.{talliedAnswer};
+ghost use Rattle.answer.specs.Answer.{talliedAnswer};
 ghost use Rattle.desktop.specs.Buffers.{trimBuffers};
 
 // Fills a buffer of 8 × n bytes with the masks of an accepted file, and one of the file's length with the trimmed file.

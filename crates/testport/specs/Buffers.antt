@@ -13,7 +13,7 @@ use Rattle.clock.specs.Call.{answerAfter, bothHave, wordsAnswer, leaves, StartC
 use Rattle.clock.specs.Values.{plainValues, plainNext, startOf}
 use Rattle.clock.specs.declared.cycle.Clocked.{Clocked}
 use Rattle.clock.specs.declared.cycle.Clocked.the-variants.{Done, Refused}
-use Rattle.desktop.specs.Answer.{refusedAnswer}
+use Rattle.answer.specs.Answer.{refusedAnswer}
 
 -- The answer as one number: a refusal as the desktop has it, and 0 for a call that was accepted.
 unfoldable pub clockedAnswer : Clocked → ℕ

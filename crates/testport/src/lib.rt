@@ -1,12 +1,12 @@
 // The test port: start and cycle on byte lists, for the outside tests and the benchmark. It is no part of the desktop's interface.
 // A caller in C is checked by nothing: it passes lists that do not overlap.
+use answer::refused;
 use bits::bytes::read_words;
 use bits::bytes::write_words;
 use clock::cycle::Clocked;
 use clock::cycle::both_have;
 use clock::cycle::run;
 use clock::reset::reset;
-use desktop::answer::refused;
 use netlist::record::Record;
 use netlist::refusal::Refusal;
 use rules::check::Checked;

@@ -2,7 +2,7 @@
 -- Assumes nothing.
 use mathlib.Core.Path.{ap, subst, _∙_}
 use Prim.Native.Nat.{ℕ}
-use Rattle.desktop.specs.Answer.{refusedAnswer}
+use Rattle.answer.specs.Answer.{refusedAnswer}
 use Rattle.testport.specs.Buffers.{clockedAnswer}
 use Rattle.testport.specs.Lent.{LowRecord}
 use Rattle.testport.proofs.answer_of.Statement.{statement}

@@ -11,7 +11,7 @@ use Rattle.netlist.specs.Layout.{designOf}
 use Rattle.rules.proofs.Acceptance.{accepted, refused-low, few}
 use Rattle.clock.specs.Call.{wordsAnswer}
 use Rattle.clock.proofs.CallLaws.{answer-refused, answer-bad-list, answer-fit, both-fit}
-use Rattle.desktop.specs.Answer.{refusedAnswer}
+use Rattle.answer.specs.Answer.{refusedAnswer}
 use Rattle.testport.specs.Buffers.{clockedAnswer, bufferWords, buffersFit}
 use Rattle.testport.specs.Lent.{LowRecord}
 use Rattle.testport.proofs.BufferLaws.{cycle-ends, answer-low}

@@ -11,7 +11,7 @@ use denote.Ref.{now}
 use Rattle.rules.proofs.Acceptance.{accepted, refused-low, few}
 use Rattle.clock.specs.declared.cycle.Clocked.the-variants.{Done}
 use Rattle.clock.proofs.CallLaws.{answer-refused, answer-bad-list, answer-fit}
-use Rattle.desktop.specs.Answer.{refusedAnswer}
+use Rattle.answer.specs.Answer.{refusedAnswer}
 use Rattle.testport.specs.Buffers.{clockedAnswer}
 use Rattle.testport.proofs.BufferLaws.{start-ends}
 use Rattle.testport.proofs.port_start.Statement.{statement}

@@ -6,7 +6,7 @@ use native.Mathlib.Omega.{arith}
 use borrow.Author.Needs.{needs}
 use denote.Ref.{now}
 use Rattle.rules.proofs.Acceptance.{refused-low}
-use Rattle.desktop.specs.Answer.{checkAnswer, refusedAnswer}
+use Rattle.answer.specs.Answer.{checkAnswer, refusedAnswer}
 use Rattle.desktop.proofs.checking.pcn_check.Statement.{statement}
 use Rattle.desktop.proofs.checking.pcn_check.Tie as tie
 

@@ -10,7 +10,7 @@ use Rattle.netlist.specs.Layout.{designOf}
 use Rattle.rules.proofs.Acceptance.{accepted}
 use Rattle.care.proofs.CallLaws.{call-refused, call-bad-list, call-filled}
 use Rattle.trim.proofs.CallLaws.{trim-refused, trim-bad-destination, trim-done, all-of}
-use Rattle.desktop.specs.Answer.{refusedAnswer, tallyAnswer, talliedAnswer}
+use Rattle.answer.specs.Answer.{refusedAnswer, tallyAnswer, talliedAnswer}
 use Rattle.desktop.specs.Buffers.{masksBuffer, fillBuffer}
 use Rattle.desktop.proofs.AnswerLaws.{buffer-low, tally-fits, record-low}
 use Rattle.desktop.proofs.trimming.pcn_trim.Statement.{statement}

@@ -3,7 +3,7 @@
 use care::tally::Tally;
 ghost use mathlib.Core.Path.{_≡_};
 ghost use Prim.Native.Nat.{_<_, _^_};
-ghost use Rattle.desktop.specs.Answer.{refusedAnswer, tallyAnswer};
+ghost use Rattle.answer.specs.Answer.{refusedAnswer, tallyAnswer};
 
 // The answer of a refused call: bit 63, the refusal's number from bit 32 on, and the record.
 pub fn refused(number: u64, at: u64) -> u64

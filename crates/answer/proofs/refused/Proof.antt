@@ -1,8 +1,8 @@
--- `desktop::answer::refused` meets its contract: a number below 256 and a record below 2^32 leave the sum within 64 bits.
+-- `answer::refused` meets its contract: a number below 256 and a record below 2^32 leave the sum within 64 bits.
 -- Assumes nothing.
 use native.Mathlib.Omega.{arith}
-use Rattle.desktop.proofs.answer.refused.Statement.{statement}
-use Rattle.desktop.proofs.answer.refused.Tie as tie
+use Rattle.answer.proofs.refused.Statement.{statement}
+use Rattle.answer.proofs.refused.Tie as tie
 
 mul-result : tie.Need-mul-result
 mul-result c = omega arith

@@ -1,9 +1,9 @@
--- `desktop::answer::tallied` meets its contract: both numbers fit, so the sum is the definition's.
+-- `answer::tallied` meets its contract: both numbers fit, so the sum is the definition's.
 -- Assumes nothing.
 use mathlib.Core.Path.{refl}
 use native.Mathlib.Omega.{arith}
-use Rattle.desktop.proofs.answer.tallied.Statement.{statement}
-use Rattle.desktop.proofs.answer.tallied.Tie as tie
+use Rattle.answer.proofs.tallied.Statement.{statement}
+use Rattle.answer.proofs.tallied.Tie as tie
 
 mul-result : tie.Need-mul-result
 mul-result c = omega arith

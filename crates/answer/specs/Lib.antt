@@ -1,0 +1,3 @@
+-- The answers of calls, as numbers.
+-- Assumes nothing.
+pub mod Answer
