@@ -6,7 +6,7 @@ use mathlib.Core.List.{List}
 use Prim.Native.Nat.{ℕ, _<_}
 use native.Mathlib.Omega.{arith}
 use lib.ListN.{length}
-use Rattle.bits.specs.Lists.{wordAt}
+use Rattle.endian.specs.Lists.{wordAt}
 use Rattle.bits.specs.Masks.{Agree}
 use Rattle.bits.proofs.Agreement.{agree-refl, agree-within}
 use Rattle.bits.proofs.Order.{meet-left}
@@ -18,7 +18,7 @@ use Rattle.fit.specs.Fit.{roleAt}
 use Rattle.rules.specs.Sound.{Sound}
 use Rattle.rules.proofs.SoundLaws.{register-loads}
 use Rattle.signal.specs.Asks.{caredOf, Granted}
-use Rattle.signal.specs.declared.asks.Ask.{Ask}
+use Rattle.signal.specs.declared.Ask.{Ask}
 use Rattle.signal.proofs.AskedOperands.{register-asks}
 use Rattle.care.specs.Least.{Closed, maskAt}
 use Rattle.clock.specs.Values.{nextOf, nextWord, startOf, startWord}

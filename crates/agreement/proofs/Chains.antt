@@ -5,8 +5,8 @@ use mathlib.Core.List.{List, [], _∷_, _++_}
 use Prim.Native.Nat.{ℕ, suc}
 use Rattle.netlist.specs.Layout.{designOf}
 use Rattle.clock.specs.Call.{startCall, cycleWith}
-use Rattle.clock.specs.declared.cycle.Clocked.{Clocked}
-use Rattle.clock.specs.declared.cycle.Clocked.the-variants.{Done, Refused}
+use Rattle.clock.specs.declared.Clocked.{Clocked}
+use Rattle.clock.specs.declared.Clocked.the-variants.{Done, Refused}
 use Rattle.agreement.specs.Runs.{Call, start, cycle, Cycle, Step, started, cycled, withInputs, outcome, callOn, runFrom}
 
 -- a start was accepted on this board list, and left that one

@@ -13,10 +13,10 @@ use Rattle.netlist.specs.declared.record.Record.{Record}
 use Rattle.fit.specs.Fit.{roleAt}
 use Rattle.rules.specs.Check.{checkOf}
 use Rattle.rules.specs.Sound.{Sound, SameDesign}
-use Rattle.rules.specs.declared.check.Checked.the-variants.{Accepted}
+use Rattle.rules.specs.declared.Checked.the-variants.{Accepted}
 use Rattle.rules.proofs.SoundLaws.{operands-below}
-use Rattle.signal.specs.Asks.{caredOf}
 use Rattle.result.specs.Results.{resultAt}
+use Rattle.signal.specs.Asks.{caredOf}
 use Rattle.care.specs.Least.{maskAt}
 use Rattle.trim.specs.Trimmed.{trimmedBy, trimDesign}
 use Rattle.trim.proofs.Trimmed.{holds-cut}

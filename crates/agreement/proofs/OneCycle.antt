@@ -8,17 +8,17 @@ use native.Mathlib.Nat.{not-suc-le-zero}
 use native.Mathlib.Omega.{arith}
 use lib.ListN.{length, set}
 use lib.Seq.{getD-set-same, getD-set-other}
-use Rattle.bits.specs.Lists.{wordAt}
+use Rattle.endian.specs.Lists.{wordAt}
 use Rattle.bits.specs.Masks.{Agree}
 use Rattle.bits.proofs.Agreement.{agree-refl, agree-sym, agree-trans, agree-within, agree-keep, agree-and}
 use Rattle.netlist.specs.Kinds.{isHeld}
 use Rattle.netlist.specs.Layout.{Design}
 use Rattle.fit.specs.Fit.{roleAt}
 use Rattle.rules.specs.Sound.{Sound}
-use Rattle.signal.specs.Asks.{caredOf, asked, Granted}
-use Rattle.signal.specs.Held.{Named}
 use Rattle.result.specs.Results.{resultAt}
-use Rattle.signal.specs.declared.asks.Ask.{Ask}
+use Rattle.signal.specs.Asks.{caredOf, asked, Granted}
+use Rattle.signal.specs.AskLists.{Named}
+use Rattle.signal.specs.declared.Ask.{Ask}
 use Rattle.signal.proofs.AskedOperands.{asked-below}
 use Rattle.signal.proofs.ResultLaws.{AllMet, result-agree}
 use Rattle.care.specs.Least.{Closed, maskAt}

@@ -6,16 +6,16 @@ use Prim.Native.Nat.{ℕ, _<_}
 use native.Mathlib.Omega.{arith}
 use lib.ListN.{length}
 use lib.Seq.{ext-getD}
-use Rattle.bits.specs.Lists.{wordAt}
-use Rattle.bits.proofs.ListLaws.{length-words, word-at}
+use Rattle.endian.specs.Lists.{wordAt}
+use Rattle.endian.proofs.ListLaws.{length-words, word-at}
 use Rattle.netlist.specs.Layout.{Design, designOf}
 use Rattle.netlist.specs.declared.refusal.Refusal.{Refusal}
 use Rattle.netlist.specs.declared.record.Role.{Role}
 use Rattle.netlist.specs.declared.record.Role.the-variants.{Input, Register, Output, Gate}
 use Rattle.fit.specs.Fit.{roleAt}
 use Rattle.clock.specs.Call.{startCall, cycleWith}
-use Rattle.clock.specs.declared.cycle.Clocked.{Clocked}
-use Rattle.clock.specs.declared.cycle.Clocked.the-variants.{Refused}
+use Rattle.clock.specs.declared.Clocked.{Clocked}
+use Rattle.clock.specs.declared.Clocked.the-variants.{Refused}
 use Rattle.agreement.specs.Runs.{start, cycle, started, cycled, putWord, withInputs, Outcome, outcome, callOn}
 
 -- "A refused call is no cycle: the run keeps its board list, and the registers' words stay."

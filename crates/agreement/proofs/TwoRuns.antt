@@ -7,7 +7,7 @@ use Prim.Native.Nat.{ℕ, zero, suc, _<_}
 use native.Mathlib.Nat.{le-of-suc-le-suc, not-suc-le-zero}
 use native.Mathlib.Omega.{arith}
 use lib.ListN.{length, drop}
-use Rattle.bits.specs.Lists.{wordAt}
+use Rattle.endian.specs.Lists.{wordAt}
 use Rattle.bits.specs.Masks.{Agree, Within}
 use Rattle.bits.specs.Words.{lowMask}
 use Rattle.bits.proofs.Agreement.{agree-within, agree-equal}
@@ -18,7 +18,7 @@ use Rattle.netlist.specs.declared.record.Role.the-variants.{Input, Output}
 use Rattle.fit.specs.Fit.{roleAt}
 use Rattle.rules.specs.Check.{checkOf}
 use Rattle.rules.specs.Sound.{Sound}
-use Rattle.rules.specs.declared.check.Checked.the-variants.{Accepted}
+use Rattle.rules.specs.declared.Checked.the-variants.{Accepted}
 use Rattle.rules.proofs.Acceptance.{accepted}
 use Rattle.care.specs.Least.{Closed, outputSeed, maskAt, masksOf}
 use Rattle.care.proofs.LeastMasks.{masks-least}

@@ -3,13 +3,13 @@
 use mathlib.Core.List.{List, [], _∷_, _++_}
 use Prim.Native.Nat.{ℕ}
 use lib.ListN.{length}
-use Rattle.bits.specs.Bytes.{bytes}
-use Rattle.bits.specs.Lists.{wordsOf}
+use Rattle.endian.specs.Bytes.{bytes}
+use Rattle.endian.specs.Lists.{wordsOf}
 use Rattle.bits.specs.Words.{lowMask}
 use Rattle.netlist.specs.Refusals.{numberOf}
 use Rattle.care.specs.Call.{masksCall}
-use Rattle.care.specs.declared.tally.Tallied.{Tallied}
-use Rattle.care.specs.declared.tally.Tallied.the-variants.{Done, Refused}
+use Rattle.care.specs.declared.Tallied.{Tallied}
+use Rattle.care.specs.declared.Tallied.the-variants.{Done, Refused}
 use Rattle.clock.specs.Call.{cycleCall}
 use Rattle.clock.specs.Values.{unchanged}
 use Rattle.agreement.specs.Runs.{start, cycle, Cycle, runOf, cyclesOf}

@@ -4,14 +4,14 @@ use mathlib.Core.Bool.{Bool, true, false}
 use mathlib.Core.List.{List, [], _∷_, _++_}
 use Prim.Native.Nat.{ℕ, suc}
 use lib.ListN.{length, getD}
-use Rattle.bits.specs.Lists.{wordAt, wordsOf}
+use Rattle.endian.specs.Lists.{wordAt, wordsOf}
 use Rattle.netlist.specs.Layout.{Design, designOf}
 use Rattle.netlist.specs.declared.record.Role.{Role}
 use Rattle.netlist.specs.declared.record.Role.the-variants.{Input, Register, Output, Gate}
 use Rattle.fit.specs.Fit.{roleAt}
 use Rattle.clock.specs.Call.{startCall, cycleWith}
-use Rattle.clock.specs.declared.cycle.Clocked.{Clocked}
-use Rattle.clock.specs.declared.cycle.Clocked.the-variants.{Done, Refused}
+use Rattle.clock.specs.declared.Clocked.{Clocked}
+use Rattle.clock.specs.declared.Clocked.the-variants.{Done, Refused}
 
 -- "a list of calls, each a start or a cycle with a word for every input", "and a next list of any words and any length". The word for an
 -- input is given by its record's number.

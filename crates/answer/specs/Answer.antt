@@ -2,11 +2,11 @@
 -- Assumes nothing.
 use Prim.Native.Nat.{ℕ, _+_, _*_, _^_}
 use Rattle.netlist.specs.Refusals.{numberOf}
-use Rattle.care.specs.declared.tally.Tally.{Tally}
-use Rattle.care.specs.declared.tally.Tallied.{Tallied}
-use Rattle.care.specs.declared.tally.Tallied.the-variants.{Done, Refused}
-use Rattle.rules.specs.declared.check.Checked.{Checked}
-use Rattle.rules.specs.declared.check.Checked.the-variants.{Accepted, Refused as refused}
+use Rattle.rules.specs.declared.Checked.{Checked}
+use Rattle.rules.specs.declared.Checked.the-variants.{Accepted, Refused as refused}
+use Rattle.care.specs.declared.Tally.{Tally}
+use Rattle.care.specs.declared.Tallied.{Tallied}
+use Rattle.care.specs.declared.Tallied.the-variants.{Done, Refused}
 
 -- "when refused, 2^63 + 2^32 × the refusal number + the record"
 abbrev pub refusedAnswer : ℕ → ℕ → ℕ

@@ -1,6 +1,6 @@
 // The 64-bit number that a call gives.
 // A caller has a refusal number and a record, or a tally, that fit into it.
-use care::tally::Tally;
+use care::Tally;
 ghost use mathlib.Core.Path.{_≡_};
 ghost use Prim.Native.Nat.{_<_, _^_};
 ghost use Rattle.answer.specs.Answer.{refusedAnswer, tallyAnswer};

@@ -1,8 +1,5 @@
--- The laws of words, masks and bytes that proofs cite, here and in the crates above.
+-- The laws of words and masks that proofs cite, here and in the crates above.
 -- Assumes nothing.
-pub mod LittleEndian
-pub mod Stores
-pub mod WordBytes
 pub mod Counts
 pub mod Modulo
 pub mod Digits
@@ -11,4 +8,3 @@ pub mod Shifts
 pub mod Agreement
 pub mod Congruence
 pub mod Growth
-pub mod ListLaws

@@ -1,6 +1,4 @@
--- What the contracts of this crate and of the crates above say about bytes, masks and words.
+-- What the contracts of this crate and of the crates above say about masks and words.
 -- Assumes nothing.
-pub mod Bytes
-pub mod Lists
 pub mod Masks
 pub mod Words

@@ -3,7 +3,7 @@
 use mathlib.Core.List.{List}
 use Prim.Native.Nat.{ℕ, zero, suc, _+_, _-_, _*_, _/_, _%_, _^_}
 use lib.Count.{onesIn}
-use Rattle.bits.specs.Lists.{wordsOf, wordsFrom}
+use Rattle.endian.specs.Lists.{wordsOf, wordsFrom}
 
 -- The mask with the n lowest bits.
 abbrev pub lowMask : ℕ → ℕ

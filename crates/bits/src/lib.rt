@@ -1,5 +1,4 @@
-// Words of 64 bits: masks, arithmetic modulo a power of two, and little-endian bytes.
-// Each function is total or asks only for a width of at most 64 or for bytes that are there.
+// Words of 64 bits: masks, and arithmetic modulo a power of two.
+// Each function is total or asks only for a width of at most 64.
 pub mod arith;
-pub mod bytes;
 pub mod mask;

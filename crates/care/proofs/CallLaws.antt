@@ -9,8 +9,8 @@ use borrow.Author.Tests.{eq-eqb, ne-eqb}
 use Rattle.netlist.specs.declared.refusal.Refusal.{Refusal}
 use Rattle.netlist.specs.declared.refusal.Refusal.the-variants.{BadList}
 use Rattle.rules.specs.Check.{checkOf}
-use Rattle.rules.specs.declared.check.Checked.{Checked}
-use Rattle.rules.specs.declared.check.Checked.the-variants.{Accepted, Refused}
+use Rattle.rules.specs.declared.Checked.{Checked}
+use Rattle.rules.specs.declared.Checked.the-variants.{Accepted, Refused}
 use Rattle.care.specs.Call.{MasksCall, refuse, callAfter}
 
 module _ (size : ℕ → ℕ) (file : List ℕ) (filled : MasksCall) (list : List ℕ) where

@@ -14,11 +14,11 @@ use Rattle.bits.specs.Masks.{Within}
 use Rattle.bits.specs.Words.{lowMask}
 use Rattle.bits.proofs.Order.{within-refl, within-trans, join-left, join-right, join-least}
 use Rattle.netlist.specs.Layout.{Design}
-use Rattle.signal.specs.Asks.{Granted, Fit, asked}
-use Rattle.signal.specs.declared.asks.Ask.{Ask}
-use Rattle.signal.proofs.RuleLaws.{asked-fit}
 use Rattle.rules.specs.Sound.{Sound}
-use Rattle.signal.specs.Held.{Named}
+use Rattle.signal.specs.Asks.{Granted, Fit, asked}
+use Rattle.signal.specs.declared.Ask.{Ask}
+use Rattle.signal.specs.AskLists.{Named}
+use Rattle.signal.proofs.RuleLaws.{asked-fit}
 use Rattle.care.specs.Least.{Closed, maskAt, grant, joined}
 
 -- a family lies within another

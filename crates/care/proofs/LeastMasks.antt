@@ -8,22 +8,20 @@ use Prim.Native.Nat.{ℕ, zero, suc, _+_, _≤_, _<_}
 use native.Mathlib.Omega.{arith}
 use lib.Dec.{eqb}
 use lib.ListN.{length, List·getD-eq-default}
-use lib.Seq.{ext-getD}
 use borrow.Author.Tests.{eqb-true, eqb-false}
-use Rattle.bits.specs.Lists.{wordsOf}
+use Rattle.endian.specs.Lists.{wordsOf}
+use Rattle.endian.proofs.ListLaws.{length-words, word-at, sum-mono, sum-same}
 use Rattle.bits.specs.Masks.{Within}
 use Rattle.bits.specs.Words.{lowMask, countOnes}
 use Rattle.bits.proofs.Growth.{countOnes-mono, countOnes-le, growth}
-use Rattle.bits.proofs.ListLaws.{length-words, word-at, sum-mono, sum-same}
 use Rattle.bits.proofs.Order.{within-refl, within-antisym, within-zero, low-within}
 use Rattle.netlist.specs.Kinds.{isOutput}
 use Rattle.netlist.specs.Layout.{Design, designOf}
-use Rattle.signal.specs.Asks.{asked}
 use Rattle.fit.specs.Fit.{roleAt}
 use Rattle.rules.specs.Sound.{Sound, Acceptance}
 use Rattle.rules.proofs.SoundLaws.{word-64}
+use Rattle.signal.specs.Asks.{asked, Granted}
 use Rattle.care.specs.Least.{Closed, Least, maskAt, outputSeed, roundTo, widthSum, onesSum, settle, leastAbove, masksOf, Fits}
-use Rattle.care.specs.Sweep.{Between, Settled}
 use Rattle.care.proofs.Families.{Inside, inside-refl, inside-trans, granted-more, below-or-not, allBits, all-closed}
 use Rattle.care.proofs.Rounds.{length-round, round-above, round-granted, round-least}
 
@@ -43,7 +41,7 @@ least-unique d seed M N a b i h = within-antisym (a .least N (b .closed) i h) (b
 record Good (d : Design) (masks result : List ℕ) : Type 0 where
   size : length result ≡ d .count
   above : Inside (maskAt masks) (maskAt result)
-  settled : (i : ℕ) → i < d .count → Settled d result i
+  granted : (i : ℕ) → i < d .count → Granted (asked (d .at) i (maskAt result i)) (maskAt result)
   least : (seed F : ℕ → ℕ) → Closed d seed F → Inside (maskAt masks) F → Inside (maskAt result) F
 
 module _ (d : Design) (s : Sound d) where
@@ -82,7 +80,7 @@ module _ (d : Design) (s : Sound d) where
         record {
           size = e;
           above = inside-refl (maskAt masks);
-          settled = λ i h.
+          granted = λ i h.
               granted-more
               (list-inside (d .count) whole (maskAt masks) (length-round d s masks e (d .count) (omega arith))
               (λ j k. subst (λ (m : ℕ). Within m (maskAt masks j)) (same j k) (within-refl (maskAt masks j))))
@@ -96,7 +94,7 @@ module _ (d : Design) (s : Sound d) where
         record {
           size = g .size;
           above = inside-trans (round-above d s masks e (d .count) (omega arith)) (g .above);
-          settled = g .settled;
+          granted = g .granted;
           least = λ seed F c i. g .least seed F c (round-least d s masks e c i (d .count) (omega arith));
         }
 
@@ -139,17 +137,9 @@ module _ (d : Design) (s : Sound d) where
     pub least-above : Least d (maskAt masks) (maskAt (leastAbove d masks))
     least-above =
         record {
-          closed = record { seeded = λ i h. good .above .each i; granted = good .settled };
+          closed = record { seeded = λ i h. good .above .each i; granted = good .granted };
           least = λ F c i h. good .least (maskAt masks) F c (list-inside (d .count) masks F (f .size) (c .seeded)) .each i;
         }
-
-    -- a list between the masks and every closed family above them, and settled itself, is the least one
-    pub reached : (result : List ℕ) → Between d masks result → ((i : ℕ) → i < d .count → Settled d result i) → result ≡ leastAbove d masks
-    reached result b t =
-        ext-getD 0 result (leastAbove d masks) (b .size ∙ f .size ∙ sym length-least)
-        (λ i h. least-unique d (maskAt masks) (maskAt result) (maskAt (leastAbove d masks))
-        (record { closed = record { seeded = λ i h. b .above i; granted = t }; least = λ F c i h. b .below F c i }) least-above i
-        (let e = b .size in let g = f .size in omega arith))
 
 -- the seed of a design: its outputs
 module _ (d : Design) (s : Sound d) where

@@ -3,10 +3,6 @@
 pub mod Families
 pub mod Rounds
 pub mod LeastMasks
-pub mod Marks
-pub mod NoBits
-pub mod SweepLaws
-pub mod ListedAsks
 pub mod TallyLaws
 pub mod CallLaws
 pub mod Promises

@@ -11,13 +11,13 @@ use Rattle.netlist.specs.Layout.{designOf}
 use Rattle.netlist.specs.declared.refusal.Refusal.{Refusal}
 use Rattle.netlist.specs.declared.refusal.Refusal.the-variants.{BadList}
 use Rattle.rules.specs.Check.{checkOf}
-use Rattle.rules.specs.declared.check.Checked.{Checked}
-use Rattle.rules.specs.declared.check.Checked.the-variants.{Accepted, Refused}
+use Rattle.rules.specs.declared.Checked.{Checked}
+use Rattle.rules.specs.declared.Checked.the-variants.{Accepted, Refused}
 use Rattle.rules.proofs.Acceptance.{accepted}
 use Rattle.care.specs.Call.{MasksCall, tallyOf, refuse, fillMasks, callAfter, masksCall}
 use Rattle.care.specs.Least.{Least, outputSeed, maskAt}
-use Rattle.care.specs.declared.tally.Tally.{Tally}
-use Rattle.care.specs.declared.tally.Tallied.the-variants.{Done, Refused as refused}
+use Rattle.care.specs.declared.Tally.{Tally}
+use Rattle.care.specs.declared.Tallied.the-variants.{Done, Refused as refused}
 use Rattle.care.proofs.CallLaws.{call-filled}
 use Rattle.care.proofs.LeastMasks.{masks-least}
 

@@ -8,10 +8,10 @@ use native.Mathlib.Nat.{eq-or-lt-of-le, not-suc-le-zero}
 use native.Mathlib.Omega.{arith}
 use lib.ListN.{length}
 use Rattle.netlist.specs.Layout.{Design}
-use Rattle.signal.specs.Asks.{Granted, asked}
-use Rattle.signal.proofs.RuleLaws.{asked-fit, asked-grow}
 use Rattle.rules.specs.Sound.{Sound}
-use Rattle.signal.specs.Held.{Named}
+use Rattle.signal.specs.Asks.{Granted, asked}
+use Rattle.signal.specs.AskLists.{Named}
+use Rattle.signal.proofs.RuleLaws.{asked-fit, asked-grow}
 use Rattle.care.specs.Least.{Closed, maskAt, roundTo}
 use Rattle.care.proofs.Families.{Inside, inside-refl, inside-trans, granted-more, length-grant, grant-above, grant-granted, grant-least, fit-named}
 

@@ -5,10 +5,10 @@ use mathlib.Core.List.{List}
 use Prim.Native.Nat.{ℕ, _+_, _*_, _^_, _≤_, _<_}
 use native.Mathlib.Nat.{le-trans}
 use native.Mathlib.Omega.{arith}
-use Rattle.bits.specs.Lists.{sumTo}
+use Rattle.endian.specs.Lists.{sumTo}
+use Rattle.endian.proofs.ListLaws.{sum-bound, sum-next}
 use Rattle.bits.specs.Words.{countOnes}
 use Rattle.bits.proofs.Growth.{countOnes-le}
-use Rattle.bits.proofs.ListLaws.{sum-bound, sum-next}
 use Rattle.bits.proofs.Order.{low-within}
 use Rattle.netlist.specs.Limits.{maxWidth}
 use Rattle.netlist.specs.Layout.{Design}

@@ -9,12 +9,12 @@ use Rattle.netlist.specs.Layout.{Design, designOf}
 use Rattle.netlist.specs.declared.refusal.Refusal.{Refusal}
 use Rattle.netlist.specs.declared.refusal.Refusal.the-variants.{BadList}
 use Rattle.rules.specs.Check.{checkOf}
-use Rattle.rules.specs.declared.check.Checked.{Checked}
-use Rattle.rules.specs.declared.check.Checked.the-variants.{Accepted, Refused}
+use Rattle.rules.specs.declared.Checked.{Checked}
+use Rattle.rules.specs.declared.Checked.the-variants.{Accepted, Refused}
 use Rattle.care.specs.Least.{widthSum, onesSum, masksOf}
-use Rattle.care.specs.declared.tally.Tally.{Tally}
-use Rattle.care.specs.declared.tally.Tallied.{Tallied}
-use Rattle.care.specs.declared.tally.Tallied.the-variants.{Done, Refused as refused}
+use Rattle.care.specs.declared.Tally.{Tally}
+use Rattle.care.specs.declared.Tallied.{Tallied}
+use Rattle.care.specs.declared.Tallied.the-variants.{Done, Refused as refused}
 
 -- What a call answers, and the mask list that it leaves.
 pub record MasksCall : Type 0 where

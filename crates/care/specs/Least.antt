@@ -7,15 +7,15 @@ use Prim.Native.Nat.{ℕ, zero, suc, _<_}
 use lib.Bits.{bitOr}
 use lib.Dec.{eqb}
 use lib.ListN.{length, set}
-use Rattle.bits.specs.Lists.{wordAt, wordsOf, sumTo}
+use Rattle.endian.specs.Lists.{wordAt, wordsOf, sumTo}
 use Rattle.bits.specs.Masks.{Within}
 use Rattle.bits.specs.Words.{lowMask, countOnes}
 use Rattle.netlist.specs.Kinds.{isOutput}
 use Rattle.netlist.specs.Layout.{Design}
 use Rattle.netlist.specs.declared.record.Role.{Role}
-use Rattle.signal.specs.Asks.{asked, Granted}
-use Rattle.signal.specs.declared.asks.Ask.{Ask}
 use Rattle.fit.specs.Fit.{roleAt}
+use Rattle.signal.specs.Asks.{asked, Granted}
+use Rattle.signal.specs.declared.Ask.{Ask}
 
 -- A family gives each signal a mask. A family M is closed if it has every bit of a seed, which is what it has to begin with, and every bit
 -- that a record asks for under M.

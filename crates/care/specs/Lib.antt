@@ -2,4 +2,3 @@
 -- Assumes nothing.
 pub mod Least
 pub mod Call
-pub mod Sweep

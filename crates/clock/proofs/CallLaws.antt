@@ -11,12 +11,12 @@ use Rattle.netlist.specs.Layout.{Design, designOf}
 use Rattle.netlist.specs.declared.refusal.Refusal.{Refusal}
 use Rattle.netlist.specs.declared.refusal.Refusal.the-variants.{BadList, WideWord}
 use Rattle.netlist.proofs.Tests.{and-first, and-second}
-use Rattle.rules.specs.declared.check.Checked.{Checked}
-use Rattle.rules.specs.declared.check.Checked.the-variants.{Accepted, Refused as refused}
+use Rattle.rules.specs.declared.Checked.{Checked}
+use Rattle.rules.specs.declared.Checked.the-variants.{Accepted, Refused as refused}
 use Rattle.clock.specs.Call.{answerAfter, isWide, wideFrom, leaves, bothHave, startAnswer, startCall, cycleAnswer, cycleWith, cycleCall}
 use Rattle.clock.specs.Values.{plainValues, plainNext, startOf}
-use Rattle.clock.specs.declared.cycle.Clocked.{Clocked}
-use Rattle.clock.specs.declared.cycle.Clocked.the-variants.{Done, Refused}
+use Rattle.clock.specs.declared.Clocked.{Clocked}
+use Rattle.clock.specs.declared.Clocked.the-variants.{Done, Refused}
 
 -- ---- the lowest record whose word is too wide
 

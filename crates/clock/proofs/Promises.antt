@@ -6,19 +6,19 @@ use mathlib.Core.List.{List}
 use Prim.Native.Nat.{ℕ, _<_}
 use native.Mathlib.Omega.{arith}
 use lib.ListN.{length, set}
-use Rattle.bits.specs.Lists.{wordAt}
+use Rattle.endian.specs.Lists.{wordAt}
 use Rattle.netlist.specs.Layout.{designOf, countOf}
 use Rattle.netlist.specs.declared.refusal.Refusal.{Refusal}
 use Rattle.netlist.specs.declared.refusal.Refusal.the-variants.{BadList}
-use Rattle.rules.specs.Sound.{Sound}
 use Rattle.fit.specs.Fit.{roleAt}
-use Rattle.rules.specs.declared.check.Checked.{Checked}
-use Rattle.rules.specs.declared.check.Checked.the-variants.{Accepted, Refused as refused}
+use Rattle.rules.specs.Sound.{Sound}
+use Rattle.rules.specs.declared.Checked.{Checked}
+use Rattle.rules.specs.declared.Checked.the-variants.{Accepted, Refused as refused}
 use Rattle.rules.proofs.Acceptance.{accepted}
 use Rattle.clock.specs.Call.{answerAfter, isWide, leaves, startCall, cycleWith, cycleCall}
 use Rattle.clock.specs.Values.{unchanged, valueAt, valuesOf, plainValues, plainNext, nextWord, nextOf, startWord, startOf}
-use Rattle.clock.specs.declared.cycle.Clocked.{Clocked}
-use Rattle.clock.specs.declared.cycle.Clocked.the-variants.{Done, Refused}
+use Rattle.clock.specs.declared.Clocked.{Clocked}
+use Rattle.clock.specs.declared.Clocked.the-variants.{Done, Refused}
 use Rattle.clock.proofs.CallLaws.{both-fit}
 use Rattle.clock.proofs.StateLaws.{start-word, next-word, start-passes, next-passes}
 use Rattle.clock.proofs.ValueLaws.{value-defined, values-narrow}

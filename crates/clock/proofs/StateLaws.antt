@@ -7,8 +7,8 @@ use Prim.Native.Nat.{ℕ, _^_, _<_}
 use lib.ListN.{length}
 use lib.Pow.{pow-pos}
 use borrow.Author.Tests.{lt-ltb}
-use Rattle.bits.specs.Lists.{wordAt}
-use Rattle.bits.proofs.ListLaws.{length-words, word-at}
+use Rattle.endian.specs.Lists.{wordAt}
+use Rattle.endian.proofs.ListLaws.{length-words, word-at}
 use Rattle.netlist.specs.Layout.{Design, designOf}
 use Rattle.netlist.specs.declared.record.Role.{Role}
 use Rattle.netlist.specs.declared.record.Role.the-variants.{Input, Register, Output, Gate}

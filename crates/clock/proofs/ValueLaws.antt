@@ -11,7 +11,7 @@ use native.Mathlib.Omega.{arith}
 use lib.Bits.{bitAnd}
 use lib.ListN.{length, set, length-set}
 use lib.Seq.{getD-set-same, getD-set-other}
-use Rattle.bits.specs.Lists.{wordAt}
+use Rattle.endian.specs.Lists.{wordAt}
 use Rattle.bits.specs.Masks.{Within}
 use Rattle.bits.proofs.Order.{meet-right, within-lt}
 use Rattle.netlist.specs.Kinds.{isHeld}

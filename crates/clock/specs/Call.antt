@@ -5,18 +5,18 @@ use mathlib.Core.List.{List}
 use Prim.Native.Nat.{ℕ, zero, suc, _^_}
 use lib.Dec.{eqb, ltb}
 use lib.ListN.{length}
-use Rattle.bits.specs.Lists.{wordAt}
+use Rattle.endian.specs.Lists.{wordAt}
 use Rattle.netlist.specs.Kinds.{isHeld}
 use Rattle.netlist.specs.Layout.{Design, designOf}
 use Rattle.netlist.specs.declared.record.Role.{Role}
 use Rattle.netlist.specs.declared.refusal.Refusal.the-variants.{BadList, WideWord}
 use Rattle.fit.specs.Fit.{roleAt}
 use Rattle.rules.specs.Check.{checkOf}
-use Rattle.rules.specs.declared.check.Checked.{Checked}
-use Rattle.rules.specs.declared.check.Checked.the-variants.{Accepted, Refused as refused}
+use Rattle.rules.specs.declared.Checked.{Checked}
+use Rattle.rules.specs.declared.Checked.the-variants.{Accepted, Refused as refused}
 use Rattle.clock.specs.Values.{unchanged, valuesOf, nextOf, startOf}
-use Rattle.clock.specs.declared.cycle.Clocked.{Clocked}
-use Rattle.clock.specs.declared.cycle.Clocked.the-variants.{Done, Refused}
+use Rattle.clock.specs.declared.Clocked.{Clocked}
+use Rattle.clock.specs.declared.Clocked.the-variants.{Done, Refused}
 
 -- 1 to 10 of the file, then 11: "A mask, board or next list has not n words." `fit` tells whether the lists have the room for n records,
 -- and `rest` is the answer if they have.

@@ -4,7 +4,7 @@ use mathlib.Core.List.{List}
 use Prim.Native.Nat.{ℕ, zero, suc}
 use lib.Bits.{bitAnd}
 use lib.ListN.{set}
-use Rattle.bits.specs.Lists.{wordAt, wordsOf}
+use Rattle.endian.specs.Lists.{wordAt, wordsOf}
 use Rattle.netlist.specs.Layout.{Design}
 use Rattle.netlist.specs.declared.record.Role.{Role}
 use Rattle.netlist.specs.declared.record.Role.the-variants.{Input, Register, Output, Gate}

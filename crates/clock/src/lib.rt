@@ -1,7 +1,9 @@
-// Clocking: the values of a cycle, the states that follow it, and the reset states.
-// The operations are `cycle::start` and `cycle::cycle`; they ask nothing of their callers. No kind is looked at here.
-pub mod cycle;
-pub mod load;
-pub mod reset;
-pub mod values;
-pub mod words;
+// Clocking: the values of a cycle, the states that follow it, and the reset states. This crate has definitions and theorems, and no code
+// but the type that they are about. Nothing is asked of a caller.
+use netlist::refusal::Refusal;
+
+// The answer of a call that clocks: done, or the refusal and its record.
+pub enum Clocked {
+    Done,
+    Refused(Refusal, usize),
+}

@@ -7,11 +7,11 @@ use native.Mathlib.Omega.{arith}
 use Rattle.netlist.specs.Layout.{designOf}
 use Rattle.netlist.specs.declared.refusal.Refusal.{Refusal}
 use Rattle.rules.specs.Check.{checkOf}
-use Rattle.rules.specs.declared.check.Checked.the-variants.{Accepted, Refused}
+use Rattle.rules.specs.declared.Checked.the-variants.{Accepted, Refused}
 use Rattle.rules.proofs.Acceptance.{accepted, few, refused-low}
 use Rattle.care.specs.Call.{tallyOf}
 use Rattle.care.specs.Least.{masksOf}
-use Rattle.care.specs.declared.tally.Tally.{Tally}
+use Rattle.care.specs.declared.Tally.{Tally}
 use Rattle.care.proofs.LeastMasks.{masks-fit}
 use Rattle.care.proofs.TallyLaws.{tally-low}
 

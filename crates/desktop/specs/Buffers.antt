@@ -2,12 +2,12 @@
 -- Assumes nothing.
 use mathlib.Core.List.{List}
 use Prim.Native.Nat.{ℕ, _*_}
-use Rattle.bits.specs.Bytes.{wordBytes}
+use Rattle.endian.specs.Bytes.{wordBytes}
 use Rattle.netlist.specs.Layout.{Design, designOf}
+use Rattle.rules.specs.Check.{checkOf}
 use Rattle.care.specs.Call.{MasksCall, tallyOf, callAfter}
 use Rattle.care.specs.Least.{masksOf}
-use Rattle.care.specs.declared.tally.Tallied.the-variants.{Done}
-use Rattle.rules.specs.Check.{checkOf}
+use Rattle.care.specs.declared.Tallied.the-variants.{Done}
 use Rattle.trim.specs.Call.{TrimCall, trimAfter}
 
 -- An accepted call of masks: the tally, and the masks as bytes.

@@ -1,8 +1,8 @@
 // The check of a file, for C.
 // Nothing is asked of a caller in Rattle.
 use answer::refused;
-use rules::check::Checked;
-use rules::check::check;
+use checker::check;
+use rules::Checked;
 ghost use mathlib.Core.Path.{_≡_};
 ghost use Rattle.rules.specs.Check.{checkOf};
 ghost use Rattle.answer.specs.Answer.{checkAnswer};

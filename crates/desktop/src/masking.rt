@@ -2,17 +2,17 @@
 // `pcn_masks` asks nothing of a caller in Rattle; the functions below it ask for an accepted file and room for its masks.
 use answer::refused;
 use answer::tallied;
-use bits::bytes::write_words;
-use care::masks::fill;
-use care::tally::Tally;
+use care::Tally;
+use checker::check;
+use endian::write_words;
+use masker::masks::fill;
 use netlist::record::Record;
 use netlist::refusal::Refusal;
-use rules::check::Checked;
-use rules::check::check;
+use rules::Checked;
 ghost use mathlib.Core.Path.{_≡_};
 ghost use Prim.Native.Nat.{_*_};
 ghost use lib.ListN.{length};
-ghost use Rattle.bits.specs.Bytes.{wordBytes};
+ghost use Rattle.endian.specs.Bytes.{wordBytes};
 ghost use Rattle.netlist.specs.Layout.{designOf, countOf};
 ghost use Rattle.rules.specs.Sound.{Acceptance};
 ghost use Rattle.care.specs.Call.{tallyOf};

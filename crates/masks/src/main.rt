@@ -1,16 +1,16 @@
 // The program `masks`: reads a file from standard input and prints its masks, or why it is refused.
 // What it prints comes from proved functions; that it reads and prints just that, no contract says.
-use care::masks::fill;
-use care::tally::Tally;
+use care::Tally;
+use checker::check;
 use libc::STDIN_FILENO;
 use libc::STDOUT_FILENO;
+use masker::masks::fill;
 use netlist::layout::HEADER;
 use netlist::layout::RECORD;
 use netlist::layout::width_at;
 use netlist::record::Record;
 use netlist::refusal::Refusal;
-use rules::check::Checked;
-use rules::check::check;
+use rules::Checked;
 ghost use mathlib.Core.Path.{_≡_};
 ghost use lib.ListN.{length};
 ghost use Rattle.netlist.specs.Layout.{countOf};

@@ -7,8 +7,8 @@ use native.Mathlib.Omega.{arith}
 use borrow.Author.Tests.{ne-eqb}
 use lib.Dec.{eqb, lit<}
 use lib.ListN.{getD, drop, replicate, List·getD-eq-default, List·getD-map}
-use Rattle.bits.specs.Lists.{wordsOf, wordsFrom}
-use Rattle.bits.proofs.ListLaws.{word-at}
+use Rattle.endian.specs.Lists.{wordsOf, wordsFrom}
+use Rattle.endian.proofs.ListLaws.{word-at}
 use Rattle.netlist.specs.Kinds.{isOutput, operandsOf}
 use Rattle.netlist.specs.Limits.{kindCount}
 use Rattle.netlist.specs.Kinds.{kinds, kindOf, codeOf, usesOf}

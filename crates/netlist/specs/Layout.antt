@@ -3,7 +3,7 @@
 use mathlib.Core.List.{List}
 use Prim.Native.Nat.{ℕ, _+_, _*_}
 use lib.ListN.{getD}
-use Rattle.bits.specs.Bytes.{numberAt}
+use Rattle.endian.specs.Bytes.{numberAt}
 use Rattle.netlist.specs.Kinds.{kindOf}
 use Rattle.netlist.specs.declared.record.Fields.{Fields}
 use Rattle.netlist.specs.declared.record.Record.{Record}

@@ -3,8 +3,8 @@
 use crate::record::Fields;
 use crate::record::Record;
 use crate::record::Uses;
-use bits::bytes::read_16;
-use bits::bytes::read_64;
+use endian::read_16;
+use endian::read_64;
 ghost use mathlib.Core.Path.{_≡_};
 ghost use Prim.Native.Nat.{_+_, _*_, _≤_, _<_, _^_};
 ghost use lib.ListN.{length};

@@ -3,7 +3,7 @@
 use mathlib.Core.Path.{_≡_, sym, ap, subst, _∙_}
 use mathlib.Core.List.{List}
 use Prim.Native.Nat.{ℕ, _<_}
-use Rattle.bits.specs.Lists.{wordAt}
+use Rattle.endian.specs.Lists.{wordAt}
 use Rattle.netlist.specs.Kinds.{usesOf}
 use Rattle.netlist.specs.Layout.{designOf, countOf, widthAt, recordAt}
 use Rattle.netlist.specs.declared.record.Record.{Record}

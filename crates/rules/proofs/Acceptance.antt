@@ -13,10 +13,10 @@ use Rattle.netlist.specs.declared.refusal.Refusal.{Refusal}
 use Rattle.fit.specs.Fit.{wordRules}
 use Rattle.rules.specs.Check.{checkOf, checkFrom, refuseAt, firstBroken, headerRules, recordRules}
 use Rattle.rules.specs.Sound.{Acceptance}
-use Rattle.rules.specs.declared.check.Checked.{Checked}
-use Rattle.rules.specs.declared.check.Checked.the-variants.{Accepted, Refused}
-use Rattle.rules.specs.declared.check.Verdict.{Verdict}
-use Rattle.rules.specs.declared.check.Verdict.the-variants.{Pass, Fail}
+use Rattle.rules.specs.declared.Checked.{Checked}
+use Rattle.rules.specs.declared.Checked.the-variants.{Accepted, Refused}
+use Rattle.rules.specs.declared.Verdict.{Verdict}
+use Rattle.rules.specs.declared.Verdict.the-variants.{Pass, Fail}
 use Rattle.rules.proofs.CheckLaws.{Kept, pass-kept, kept-pass}
 
 -- a step that ends in acceptance passed, and so did what follows

@@ -18,8 +18,8 @@ use Rattle.netlist.specs.declared.record.Uses.{Uses}
 use Rattle.netlist.proofs.Tests.{tests-hold, hold-tests}
 use Rattle.fit.specs.Fit.{operandLimit, namesRules, operandRules, widthRulesAt, wordRules}
 use Rattle.rules.specs.Check.{firstBroken, refuseAt, checkFrom, recordRules}
-use Rattle.rules.specs.declared.check.Verdict.{Verdict}
-use Rattle.rules.specs.declared.check.Verdict.the-variants.{Pass, Fail}
+use Rattle.rules.specs.declared.Verdict.{Verdict}
+use Rattle.rules.specs.declared.Verdict.the-variants.{Pass, Fail}
 
 -- rules that hold leave the verdict to those after them; rules that do not are the verdict
 pub holding : (e : Refusal × List Rule) (es : List (Refusal × List Rule)) {v : Verdict} → testAll (e .1) ≡ true → v ≡ firstBroken es → v ≡ firstBroken (e ∷ es)

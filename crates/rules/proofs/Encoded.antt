@@ -6,8 +6,8 @@ use Prim.Native.Nat.{ℕ, zero, suc, _+_, _≤_, _<_}
 use native.Mathlib.Nat.{add-zero}
 use native.Mathlib.Omega.{arith}
 use lib.Dec.{lit<}
-use Rattle.bits.specs.Bytes.{bytes}
-use Rattle.bits.proofs.LittleEndian.{numberAt-bytes, bytes-low}
+use Rattle.endian.specs.Bytes.{bytes}
+use Rattle.endian.proofs.LittleEndian.{numberAt-bytes, bytes-low}
 use Rattle.netlist.specs.Kinds.{codeOf, usesOf}
 use Rattle.netlist.specs.Layout.{Design, designOf, recordAt, codeAt, widthAt, fieldsAt, keepAt, countOf, byteAt, recordStart}
 use Rattle.netlist.specs.Rules.{AllHold}
@@ -17,7 +17,7 @@ use Rattle.fit.specs.Fit.{fieldRules, wordRules}
 use Rattle.rules.specs.Check.{checkOf, headerRules, recordRules}
 use Rattle.rules.specs.Encode.{encode, encodeFrom, encodeRecord, AreBytes, StandsFor}
 use Rattle.rules.specs.Sound.{Sound, SameDesign}
-use Rattle.rules.specs.declared.check.Checked.the-variants.{Accepted}
+use Rattle.rules.specs.declared.Checked.the-variants.{Accepted}
 use Rattle.rules.proofs.Acceptance.{kept-accepted}
 use Rattle.rules.proofs.CheckLaws.{Kept}
 use Rattle.rules.proofs.EncodedBytes.{length-encode, byte-encode, number-encode}

@@ -7,7 +7,7 @@ use native.Mathlib.Nat.{add-zero, add-suc, zero-add, suc-add, le-of-suc-le-suc}
 use native.Mathlib.Omega.{arith}
 use lib.ListN.{length, getD, length-append, List·getD-append}
 use lib.Seq.{getD-append-add}
-use Rattle.bits.specs.Bytes.{numberAt}
+use Rattle.endian.specs.Bytes.{numberAt}
 use Rattle.netlist.specs.Layout.{Design, recordSize, recordStart}
 use Rattle.netlist.specs.declared.record.Record.{Record}
 use Rattle.rules.specs.Encode.{encode, encodeFrom, encodeRecord}

@@ -21,9 +21,9 @@ use Rattle.netlist.specs.declared.record.Uses.{Uses}
 use Rattle.netlist.proofs.KindLaws.{padded, is-register}
 use Rattle.netlist.proofs.Tests.{hold-tests}
 use Rattle.fit.specs.Fit.{roleAt, operandLimit, namesRules, operandRules, widthRulesAt}
+use Rattle.fit.proofs.OperandLaws.{operand-below}
 use Rattle.rules.specs.Sound.{Sound, SoundRecord, SameDesign}
 use Rattle.rules.proofs.CheckLaws.{limit-le}
-use Rattle.fit.proofs.OperandLaws.{operand-below}
 
 -- the operand fields of what a kind uses lie below n
 pub record OperandsBelow (u : Uses) (n : ℕ) : Type 0 where

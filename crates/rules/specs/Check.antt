@@ -11,10 +11,10 @@ use Rattle.netlist.specs.Rules.{Rule, equal, below, atMost, testAll}
 use Rattle.netlist.specs.declared.refusal.Refusal.{Refusal}
 use Rattle.netlist.specs.declared.refusal.Refusal.the-variants.{TooShort, BadMark, BadVersion, TooManyRecords, BadLength, BadKind, BadWidth, BadOperand, BadWidthRule, UnusedBit}
 use Rattle.fit.specs.Fit.{widthRange, operandRules, widthRulesAt, fieldRules, wordRules}
-use Rattle.rules.specs.declared.check.Checked.{Checked}
-use Rattle.rules.specs.declared.check.Checked.the-variants.{Accepted, Refused}
-use Rattle.rules.specs.declared.check.Verdict.{Verdict}
-use Rattle.rules.specs.declared.check.Verdict.the-variants.{Pass, Fail}
+use Rattle.rules.specs.declared.Checked.{Checked}
+use Rattle.rules.specs.declared.Checked.the-variants.{Accepted, Refused}
+use Rattle.rules.specs.declared.Verdict.{Verdict}
+use Rattle.rules.specs.declared.Verdict.the-variants.{Pass, Fail}
 
 -- 2: "The mark is not `PCN`, or byte 5 is not zero."
 abbrev pub markRules : List ℕ → List Rule

@@ -3,13 +3,13 @@
 use mathlib.Core.Path.{_≡_}
 use mathlib.Core.List.{List, [], _∷_, _++_}
 use Prim.Native.Nat.{ℕ, zero, suc, _<_}
-use Rattle.bits.specs.Bytes.{bytes}
+use Rattle.endian.specs.Bytes.{bytes}
 use Rattle.netlist.specs.Kinds.{codeOf, usesOf}
 use Rattle.netlist.specs.Layout.{Design, designOf, byteAt}
 use Rattle.netlist.specs.declared.record.Record.{Record}
 use Rattle.rules.specs.Check.{checkOf}
 use Rattle.rules.specs.Sound.{SameDesign}
-use Rattle.rules.specs.declared.check.Checked.the-variants.{Accepted}
+use Rattle.rules.specs.declared.Checked.the-variants.{Accepted}
 
 -- The 24 bytes of a record, with 0 in the fields that its kind does not use.
 unfoldable pub encodeRecord : Record → List ℕ

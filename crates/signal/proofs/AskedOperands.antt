@@ -15,7 +15,7 @@ use Rattle.netlist.proofs.KindLaws.{is-register}
 use Rattle.fit.specs.Fit.{roleAt, namesRules}
 use Rattle.rules.specs.Sound.{Sound}
 use Rattle.signal.specs.Asks.{ask, asksOf, caredOf, asked}
-use Rattle.signal.specs.Held.{Named}
+use Rattle.signal.specs.AskLists.{Named}
 use Rattle.signal.proofs.ResultLaws.{names-below}
 
 -- what is asked is asked of the operands that the kind uses

@@ -24,9 +24,9 @@ use Rattle.netlist.specs.declared.record.Role.the-variants.{Input as input, Reg
 use Rattle.fit.specs.Fit.{roleAt, operandLimit, namesRules, operandRules, widthRulesAt}
 use Rattle.rules.specs.Sound.{Sound}
 use Rattle.rules.proofs.SoundLaws.{operands-below}
-use Rattle.signal.specs.Asks.{ask, allIfAny, asksOf, caredOf, asked}
 use Rattle.result.specs.Results.{resultOf, resultAt}
-use Rattle.signal.specs.declared.asks.Ask.{Ask}
+use Rattle.signal.specs.Asks.{ask, allIfAny, asksOf, caredOf, asked}
+use Rattle.signal.specs.declared.Ask.{Ask}
 
 -- ---- what two runs have in common at an operand
 

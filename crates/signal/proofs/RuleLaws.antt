@@ -22,7 +22,7 @@ use Rattle.fit.specs.Fit.{widthRulesAt}
 use Rattle.rules.specs.Sound.{Sound}
 use Rattle.rules.proofs.SoundLaws.{OperandsBelow, operands-below, word-64}
 use Rattle.signal.specs.Asks.{upToHighest, allIfAny, asksOf, caredOf, asked, Granted, Fit}
-use Rattle.signal.specs.Held.{NoBit}
+use Rattle.signal.specs.AskLists.{NoBit}
 
 -- all bits if D is not 0: more of D asks for no less
 any-within : (w D : ℕ) → Within (allIfAny w D) (lowMask w)

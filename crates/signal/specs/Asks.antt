@@ -11,7 +11,7 @@ use Rattle.netlist.specs.Layout.{Design}
 use Rattle.netlist.specs.declared.record.Kind.{Kind}
 use Rattle.netlist.specs.declared.record.Kind.the-variants.{Input, Constant, Register, Output, Extract, Concat, And, Or, Xor, Mux, Add, Sub, Mul, Equal, Below}
 use Rattle.netlist.specs.declared.record.Record.{Record}
-use Rattle.signal.specs.declared.asks.Ask.{Ask}
+use Rattle.signal.specs.declared.Ask.{Ask}
 
 -- An operand has a mask: this is asked of it.
 abbrev pub ask : ℕ → ℕ → Ask

@@ -1,4 +1,4 @@
 -- What one record asks of its operands.
 -- Assumes nothing.
 pub mod Asks
-pub mod Held
+pub mod AskLists

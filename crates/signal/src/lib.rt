@@ -1,3 +1,8 @@
-// What one record asks of its operands, kind by kind, and the laws that join it to the record's result.
-// `asks::asked` asks for an accepted file and a record of it.
-pub mod asks;
+// What one record asks of its operands, and the laws that join it to the record's result. This crate has definitions and theorems, and no
+// code but the type that they are about. Nothing is asked of a caller.
+
+// A mask that is asked of an operand.
+pub struct Ask {
+    pub operand: usize,
+    pub mask: u64,
+}

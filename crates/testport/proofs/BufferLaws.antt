@@ -7,8 +7,8 @@ use Prim.Native.Nat.{ℕ, zero, suc, _+_, _*_, _^_, _≤_, _<_}
 use native.Mathlib.Omega.{arith}
 use lib.Dec.{eqb}
 use lib.ListN.{length}
-use Rattle.bits.specs.Bytes.{wordsIn, wordBytes}
-use Rattle.bits.proofs.ListLaws.{length-words}
+use Rattle.endian.specs.Bytes.{wordsIn, wordBytes}
+use Rattle.endian.proofs.ListLaws.{length-words}
 use Rattle.netlist.specs.Limits.{maxCount}
 use Rattle.netlist.specs.Layout.{Design, designOf, countOf}
 use Rattle.netlist.specs.declared.refusal.Refusal.the-variants.{WideWord}
@@ -16,8 +16,8 @@ use Rattle.rules.specs.Check.{checkOf}
 use Rattle.rules.specs.Sound.{Sound}
 use Rattle.clock.specs.Call.{answerAfter, isWide, wideFrom, wordsAnswer, leaves}
 use Rattle.clock.specs.Values.{unchanged, plainValues, plainNext, nextOf, startOf}
-use Rattle.clock.specs.declared.cycle.Clocked.{Clocked}
-use Rattle.clock.specs.declared.cycle.Clocked.the-variants.{Done, Refused}
+use Rattle.clock.specs.declared.Clocked.{Clocked}
+use Rattle.clock.specs.declared.Clocked.the-variants.{Done, Refused}
 use Rattle.clock.proofs.ValueLaws.{length-values}
 use Rattle.testport.specs.Buffers.{startBuffer, bufferWords, bufferValues, bufferNext, buffersFit, cycleBuffers}
 use Rattle.testport.specs.Lent.{LowRecord}

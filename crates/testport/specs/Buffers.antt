@@ -5,14 +5,14 @@ use mathlib.Core.List.{List}
 use Prim.Native.Nat.{ℕ, _*_}
 use lib.Dec.{eqb}
 use lib.ListN.{length}
-use Rattle.bits.specs.Bytes.{wordsIn, wordBytes}
+use Rattle.endian.specs.Bytes.{wordsIn, wordBytes}
 use Rattle.netlist.specs.Layout.{designOf, countOf}
 use Rattle.netlist.specs.Refusals.{numberOf}
 use Rattle.rules.specs.Check.{checkOf}
 use Rattle.clock.specs.Call.{answerAfter, bothHave, wordsAnswer, leaves, StartCall, CycleCall}
 use Rattle.clock.specs.Values.{plainValues, plainNext, startOf}
-use Rattle.clock.specs.declared.cycle.Clocked.{Clocked}
-use Rattle.clock.specs.declared.cycle.Clocked.the-variants.{Done, Refused}
+use Rattle.clock.specs.declared.Clocked.{Clocked}
+use Rattle.clock.specs.declared.Clocked.the-variants.{Done, Refused}
 use Rattle.answer.specs.Answer.{refusedAnswer}
 
 -- The answer as one number: a refusal as the desktop has it, and 0 for a call that was accepted.

@@ -6,8 +6,8 @@ use Prim.Native.Nat.{ℕ, _*_, _^_, _<_}
 use lib.ListN.{length}
 use Rattle.netlist.specs.Layout.{countOf}
 use Rattle.rules.specs.Sound.{Acceptance}
-use Rattle.clock.specs.declared.cycle.Clocked.{Clocked}
-use Rattle.clock.specs.declared.cycle.Clocked.the-variants.{Done, Refused}
+use Rattle.clock.specs.declared.Clocked.{Clocked}
+use Rattle.clock.specs.declared.Clocked.the-variants.{Done, Refused}
 
 -- The record of a refusal has room in the answer.
 abbrev pub LowRecord : Clocked → Type 0

@@ -1,20 +1,20 @@
 // The test port: start and cycle on byte lists, for the outside tests and the benchmark. It is no part of the desktop's interface.
 // A caller in C is checked by nothing: it passes lists that do not overlap.
 use answer::refused;
-use bits::bytes::read_words;
-use bits::bytes::write_words;
-use clock::cycle::Clocked;
-use clock::cycle::both_have;
-use clock::cycle::run;
-use clock::reset::reset;
+use board::reset::reset;
+use checker::check;
+use clock::Clocked;
+use endian::read_words;
+use endian::write_words;
 use netlist::record::Record;
 use netlist::refusal::Refusal;
-use rules::check::Checked;
-use rules::check::check;
+use rules::Checked;
+use simulator::both_have;
+use simulator::run;
 ghost use mathlib.Core.Path.{_≡_};
 ghost use Prim.Native.Nat.{_*_};
 ghost use lib.ListN.{length};
-ghost use Rattle.bits.specs.Bytes.{wordBytes};
+ghost use Rattle.endian.specs.Bytes.{wordBytes};
 ghost use Rattle.netlist.specs.Layout.{designOf};
 ghost use Rattle.rules.specs.Sound.{Acceptance};
 ghost use Rattle.clock.specs.Call.{wordsAnswer, leaves};

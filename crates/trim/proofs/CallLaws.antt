@@ -9,8 +9,8 @@ use borrow.Author.Tests.{eq-eqb, ne-eqb}
 use Rattle.netlist.specs.declared.refusal.Refusal.{Refusal}
 use Rattle.netlist.specs.declared.refusal.Refusal.the-variants.{BadDestination}
 use Rattle.care.specs.Call.{MasksCall, refuse}
-use Rattle.care.specs.declared.tally.Tally.{Tally}
-use Rattle.care.specs.declared.tally.Tallied.the-variants.{Done, Refused}
+use Rattle.care.specs.declared.Tally.{Tally}
+use Rattle.care.specs.declared.Tallied.the-variants.{Done, Refused}
 use Rattle.trim.specs.Call.{TrimCall, trimAnswer, leaves, trimAfter}
 use Rattle.trim.specs.Trimmed.{trimmed}
 

@@ -6,14 +6,14 @@ use Prim.Native.Nat.{ℕ, _<_}
 use lib.ListN.{length}
 use Rattle.netlist.specs.Layout.{designOf, byteAt, countOf, keepAt, recordAt}
 use Rattle.netlist.specs.declared.refusal.Refusal.{Refusal}
-use Rattle.signal.specs.Asks.{caredOf}
 use Rattle.rules.specs.Check.{checkOf}
 use Rattle.rules.specs.Sound.{SameDesign}
-use Rattle.rules.specs.declared.check.Checked.the-variants.{Accepted}
+use Rattle.rules.specs.declared.Checked.the-variants.{Accepted}
+use Rattle.signal.specs.Asks.{caredOf}
 use Rattle.care.specs.Call.{MasksCall, tallyOf, masksCall}
 use Rattle.care.specs.Least.{maskAt, masksOf}
-use Rattle.care.specs.declared.tally.Tallied.{Tallied}
-use Rattle.care.specs.declared.tally.Tallied.the-variants.{Refused}
+use Rattle.care.specs.declared.Tallied.{Tallied}
+use Rattle.care.specs.declared.Tallied.the-variants.{Refused}
 use Rattle.care.proofs.Promises.{filled}
 use Rattle.trim.specs.Call.{TrimCall, leaves, trimAfter, trimCall}
 use Rattle.trim.specs.Trimmed.{trimmed, trimDesign, Outside}

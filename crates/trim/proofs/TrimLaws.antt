@@ -10,8 +10,8 @@ use native.Mathlib.Omega.{arith}
 use lib.ListN.{length, take, drop, length-set}
 use lib.Seq.{sets, length-sets, take-length, drop-length}
 use borrow.Rule.Slice.PartMut.{midOf, putMid}
-use Rattle.bits.specs.Bytes.{numberAt, bytes}
-use Rattle.bits.proofs.Stores.{stored-before, stored-outside, number-same, number-stored, part-stored}
+use Rattle.endian.specs.Bytes.{numberAt, bytes}
+use Rattle.endian.proofs.Stores.{stored-before, stored-outside, number-same, number-stored, part-stored}
 use Rattle.netlist.specs.Layout.{countOf, byteAt, recordAt, recordSize, recordStart, keepStart}
 use Rattle.signal.specs.Asks.{caredOf}
 use Rattle.care.specs.Least.{maskAt}

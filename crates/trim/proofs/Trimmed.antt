@@ -7,16 +7,16 @@ use native.Mathlib.Nat.{add-zero}
 use native.Mathlib.Omega.{arith}
 use lib.Dec.{lit<}
 use lib.ListN.{length}
-use Rattle.bits.specs.Bytes.{numberAt}
+use Rattle.endian.specs.Bytes.{numberAt}
+use Rattle.endian.proofs.Stores.{number-same}
 use Rattle.bits.proofs.Order.{meet-right, within-lt}
-use Rattle.bits.proofs.Stores.{number-same}
 use Rattle.netlist.specs.Kinds.{usesOf, operandsOf}
 use Rattle.netlist.specs.Layout.{Design, designOf, recordAt, codeAt, widthAt, fieldsAt, keepAt, countOf, byteAt, recordStart}
 use Rattle.netlist.specs.Rules.{AllHold}
 use Rattle.fit.specs.Fit.{operandLimit, fieldRules, operandRules, widthRulesAt, wordRules}
 use Rattle.rules.specs.Check.{checkOf, headerRules, recordRules}
 use Rattle.rules.specs.Sound.{Sound, SoundRecord, SameDesign}
-use Rattle.rules.specs.declared.check.Checked.the-variants.{Accepted}
+use Rattle.rules.specs.declared.Checked.the-variants.{Accepted}
 use Rattle.rules.proofs.Acceptance.{accepted, accepted-kept, kept-accepted}
 use Rattle.rules.proofs.CheckLaws.{Kept}
 use Rattle.rules.proofs.SoundLaws.{word-64, names-same, record-same}

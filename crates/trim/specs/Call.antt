@@ -7,8 +7,8 @@ use lib.Dec.{eqb}
 use lib.ListN.{length}
 use Rattle.netlist.specs.declared.refusal.Refusal.the-variants.{BadDestination}
 use Rattle.care.specs.Call.{MasksCall, masksCall}
-use Rattle.care.specs.declared.tally.Tallied.{Tallied}
-use Rattle.care.specs.declared.tally.Tallied.the-variants.{Done, Refused}
+use Rattle.care.specs.declared.Tallied.{Tallied}
+use Rattle.care.specs.declared.Tallied.the-variants.{Done, Refused}
 use Rattle.trim.specs.Trimmed.{trimmed}
 
 -- What a call answers, and the mask list and destination that it leaves.

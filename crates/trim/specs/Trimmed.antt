@@ -4,7 +4,7 @@ use mathlib.Core.List.{List}
 use mathlib.Core.Logic.{_⊎_}
 use Prim.Native.Nat.{ℕ, zero, suc, _+_, _≤_, _<_}
 use lib.Seq.{sets}
-use Rattle.bits.specs.Bytes.{bytes}
+use Rattle.endian.specs.Bytes.{bytes}
 use Rattle.netlist.specs.Layout.{Design, designOf, countOf, recordAt, keepStart}
 use Rattle.netlist.specs.declared.record.Record.{Record}
 use Rattle.signal.specs.Asks.{caredOf}

@@ -5,7 +5,7 @@ use Prim.Native.Nat.{ℕ}
 use lib.Seq.{length-take-le}
 use borrow.Author.Needs.{needs}
 use denote.Ref.{now}
-use Rattle.bits.proofs.ListLaws.{front-within, taken-length}
+use Rattle.endian.proofs.ListLaws.{front-within, taken-length}
 use Rattle.rules.specs.Sound.{Acceptance}
 use Rattle.rules.proofs.Acceptance.{few}
 use Rattle.care.proofs.LeastMasks.{masks-length}

@@ -3,8 +3,8 @@
 use Prim.Native.Nat.{_-_, _≤_}
 use native.Mathlib.Omega.{arith}
 use denote.Ref.{now}
-use Rattle.rules.proofs.Acceptance.{holds-record}
 use Rattle.netlist.specs.Layout.{designOf, countOf}
+use Rattle.rules.proofs.Acceptance.{holds-record}
 use Rattle.masks.proofs.print_masks.Statement.{statement}
 use Rattle.masks.proofs.print_masks.Tie as tie
 

@@ -9,7 +9,7 @@ use borrow.Author.Tests.{eq-eqb, ne-eqb}
 use borrow.Author.Needs.{needs}
 use denote.Ref.{now}
 use Rattle.rules.proofs.Acceptance.{accepted, refused-low, few}
-use Rattle.clock.specs.declared.cycle.Clocked.the-variants.{Done}
+use Rattle.clock.specs.declared.Clocked.the-variants.{Done}
 use Rattle.clock.proofs.CallLaws.{answer-refused, answer-bad-list, answer-fit}
 use Rattle.answer.specs.Answer.{refusedAnswer}
 use Rattle.testport.specs.Buffers.{clockedAnswer}

@@ -5,8 +5,8 @@ use Prim.Native.Nat.{ℕ, _*_}
 use lib.Seq.{length-take-le}
 use borrow.Author.Needs.{needs}
 use denote.Ref.{now}
-use Rattle.bits.specs.Bytes.{wordBytes}
-use Rattle.bits.proofs.ListLaws.{front-within, front-taken, taken-length}
+use Rattle.endian.specs.Bytes.{wordBytes}
+use Rattle.endian.proofs.ListLaws.{front-within, front-taken, taken-length}
 use Rattle.rules.specs.Sound.{Acceptance}
 use Rattle.rules.proofs.Acceptance.{few}
 use Rattle.clock.proofs.StateLaws.{start-length}

@@ -4,7 +4,7 @@ use mathlib.Core.Path.{refl, sym, ap, _∙_}
 use Prim.Native.Nat.{ℕ, _*_}
 use borrow.Author.Needs.{needs}
 use denote.Ref.{now}
-use Rattle.bits.specs.Bytes.{wordBytes}
+use Rattle.endian.specs.Bytes.{wordBytes}
 use Rattle.netlist.specs.Layout.{designOf}
 use Rattle.clock.specs.Call.{wordsAnswer}
 use Rattle.testport.proofs.BufferLaws.{words-read, words-length, values-left, next-left, values-length, next-length}

@@ -6,7 +6,7 @@ use Prim.Native.Nat.{ℕ}
 use native.Mathlib.Omega.{arith}
 use lib.ListN.{getD, length}
 use borrow.Author.Needs.{needs}
-use Rattle.bits.proofs.ListLaws.{word-at, length-words}
+use Rattle.endian.proofs.ListLaws.{word-at, length-words}
 use Rattle.bits.specs.Words.{lowMask, lowMasks}
 use Rattle.bits.proofs.mask.low_entry.Statement.{statement}
 use Rattle.bits.proofs.mask.low_entry.Tie as tie

@@ -4,7 +4,7 @@ use mathlib.Core.Path.{sym, ap, _∙_}
 use Prim.Native.Nat.{ℕ, _*_}
 use borrow.Author.Needs.{needs}
 use denote.Ref.{now}
-use Rattle.bits.specs.Bytes.{wordBytes}
+use Rattle.endian.specs.Bytes.{wordBytes}
 use Rattle.care.proofs.LeastMasks.{masks-length}
 use Rattle.desktop.proofs.masking.fill_both.Statement.{statement}
 use Rattle.desktop.proofs.masking.fill_both.Tie as tie

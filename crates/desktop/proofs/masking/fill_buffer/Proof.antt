@@ -5,8 +5,8 @@ use Prim.Native.Nat.{ℕ, _*_}
 use lib.Seq.{length-take-le}
 use borrow.Author.Needs.{needs}
 use denote.Ref.{now}
-use Rattle.rules.proofs.Acceptance.{few}
 use Rattle.rules.specs.Sound.{Acceptance}
+use Rattle.rules.proofs.Acceptance.{few}
 use Rattle.desktop.proofs.masking.fill_buffer.Statement.{statement}
 use Rattle.desktop.proofs.masking.fill_buffer.Tie as tie
 

@@ -9,8 +9,8 @@ use denote.Ref.{now}
 use Rattle.netlist.specs.Layout.{designOf}
 use Rattle.rules.proofs.Acceptance.{accepted}
 use Rattle.care.proofs.CallLaws.{call-refused, call-bad-list, call-filled, both-of}
-use Rattle.desktop.specs.Buffers.{masksBuffer, fillBuffer}
 use Rattle.answer.specs.Answer.{refusedAnswer, tallyAnswer, talliedAnswer}
+use Rattle.desktop.specs.Buffers.{masksBuffer, fillBuffer}
 use Rattle.desktop.proofs.AnswerLaws.{buffer-low, tally-fits, record-low}
 use Rattle.desktop.proofs.masking.pcn_masks.Statement.{statement}
 use Rattle.desktop.proofs.masking.pcn_masks.Tie as tie

@@ -5,9 +5,9 @@ use Prim.Native.Nat.{ℕ, _*_}
 use lib.Seq.{length-take-le}
 use borrow.Author.Needs.{needs}
 use denote.Ref.{now}
-use Rattle.bits.proofs.ListLaws.{front-within, front-taken, taken-length}
-use Rattle.rules.proofs.Acceptance.{few}
+use Rattle.endian.proofs.ListLaws.{front-within, front-taken, taken-length}
 use Rattle.rules.specs.Sound.{Acceptance}
+use Rattle.rules.proofs.Acceptance.{few}
 use Rattle.care.proofs.LeastMasks.{masks-length}
 use Rattle.trim.specs.Trimmed.{trimmedBy}
 use Rattle.desktop.proofs.trimming.trim_buffers.Statement.{statement}

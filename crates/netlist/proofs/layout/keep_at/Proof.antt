@@ -4,8 +4,8 @@ use mathlib.Core.Path.{ap, _∙_}
 use Prim.Native.Nat.{ℕ}
 use borrow.Author.Needs.{needs}
 use denote.Ref.{now}
+use Rattle.endian.specs.Bytes.{numberAt}
 use Rattle.netlist.specs.Layout.{keepAt}
-use Rattle.bits.specs.Bytes.{numberAt}
 use Rattle.netlist.proofs.layout.keep_at.Statement.{statement}
 use Rattle.netlist.proofs.layout.keep_at.Tie as tie
 

@@ -1,0 +1,38 @@
+// The words of a next list after a cycle.
+// A caller has an accepted file and lists of n words.
+use netlist::layout::uses_at;
+use netlist::record::Role;
+ghost use mathlib.Core.Path.{_≡_};
+ghost use Prim.Native.Nat.{_<_};
+ghost use lib.ListN.{length};
+ghost use Rattle.netlist.specs.Layout.{designOf, countOf};
+ghost use Rattle.fit.specs.Fit.{roleAt};
+ghost use Rattle.rules.specs.Sound.{Acceptance};
+ghost use Rattle.clock.specs.Values.{nextWord, nextOf};
+
+// The word of record i after a cycle: the value of a register's a, and 0 for another.
+fn next_word(file: &[u8], values: &[u64], i: usize) -> u64
+    requires { ⌜ Acceptance (now file) (countOf (now file)) × (i < countOf (now file)) × (length (now values) ≡ countOf (now file)) ⌝ }
+    ensures { λ r. ⌜ r ≡ nextWord (now (values .entry)) (roleAt (designOf (now (file .entry))) i) ⌝ }
+{
+    let uses = uses_at(file, i);
+    let role = uses.role;
+    match role {
+        Role::Input => 0,
+        Role::Register { a, k: _ } => values[a],
+        Role::Output => 0,
+        Role::Gate => 0,
+    }
+}
+
+// Fills a list with the words after a cycle that gave these values.
+pub fn load(file: &[u8], values: &[u64], list: &mut [u64])
+    requires { ⌜ Acceptance (now file) (countOf (now file)) × (length (now values) ≡ countOf (now file)) × (length (now list) ≡ countOf (now file)) ⌝ }
+    ensures { λ r. ⌜ now (list .exit) ≡ nextOf (designOf (now (file .entry))) (now (values .entry)) ⌝ }
+{
+    let mut i: usize = 0;
+    while i < list.len() {
+        list[i] = next_word(file, values, i);
+        i += 1;
+    }
+}

@@ -1,0 +1,239 @@
+-- `demand::of_kind` meets its contract: each kind has its line in the definition.
+-- Assumes nothing.
+use mathlib.Core.Path.{sym, subst}
+use Prim.Native.Nat.{ℕ, _≤_}
+use denote.Ref.{now}
+use Rattle.netlist.specs.declared.record.Kind.{Kind}
+use Rattle.netlist.specs.Layout.{designOf, recordAt}
+use Rattle.demand.specs.Held.{Readable}
+use Rattle.demand.proofs.of_kind.Statement.{statement}
+use Rattle.demand.proofs.of_kind.Tie as tie
+
+enum-told : tie.Need-enum-told
+enum-told c = c .match .keys1
+
+none-requires : tie.Need-none-requires
+none-requires c κs = tt
+
+enum-told-2 : tie.Need-enum-told-2
+enum-told-2 c = c .match .keys2
+
+none-requires-2 : tie.Need-none-requires-2
+none-requires-2 c κs = tt
+
+enum-known-kind : tie.Need-enum-known-kind
+enum-known-kind c = c .match .keys3
+
+one-requires : tie.Need-one-requires
+one-requires c κs = tt
+
+enum-known-kind-2 : tie.Need-enum-known-kind-2
+enum-known-kind-2 c = c .match .keys4
+
+one-requires-2 : tie.Need-one-requires-2
+one-requires-2 c κs = tt
+
+enum-known-kind-3 : tie.Need-enum-known-kind-3
+enum-known-kind-3 c = c .match .keys5
+
+shl-requires : tie.Need-shl-requires
+shl-requires c κs = tt
+
+one-requires-3 : tie.Need-one-requires-3
+one-requires-3 c κs = tt
+
+enum-known-kind-4 : tie.Need-enum-known-kind-4
+enum-known-kind-4 c = c .match .keys6
+
+width-at-requires : tie.Need-width-at-requires
+width-at-requires c κs = (subst (λ (k : Kind). Readable (now (c .before .before .before .before .before .args .file)) k) (c .before .kind4 .given .1)
+    (c .before .before .before .before .before .pre .0)) .second
+
+of-concat-requires : tie.Need-of-concat-requires
+of-concat-requires c κs = tt
+
+enum-known-kind-5 : tie.Need-enum-known-kind-5
+enum-known-kind-5 c = c .match .keys7
+
+two-requires : tie.Need-two-requires
+two-requires c κs = tt
+
+enum-known-kind-6 : tie.Need-enum-known-kind-6
+enum-known-kind-6 c = c .match .keys8
+
+two-requires-2 : tie.Need-two-requires-2
+two-requires-2 c κs = tt
+
+enum-known-kind-7 : tie.Need-enum-known-kind-7
+enum-known-kind-7 c = c .match .keys9
+
+two-requires-3 : tie.Need-two-requires-3
+two-requires-3 c κs = tt
+
+enum-known-kind-8 : tie.Need-enum-known-kind-8
+enum-known-kind-8 c = c .match .keys10
+
+three-requires : tie.Need-three-requires
+three-requires c κs = tt
+
+enum-known-kind-9 : tie.Need-enum-known-kind-9
+enum-known-kind-9 c = c .match .keys11
+
+of-carries-requires : tie.Need-of-carries-requires
+of-carries-requires c κs = c .before .before .before .before .before .pre .1
+
+enum-known-kind-10 : tie.Need-enum-known-kind-10
+enum-known-kind-10 c = c .match .keys12
+
+of-carries-requires-2 : tie.Need-of-carries-requires-2
+of-carries-requires-2 c κs = c .before .before .before .before .before .pre .1
+
+enum-known-kind-11 : tie.Need-enum-known-kind-11
+enum-known-kind-11 c = c .match .keys13
+
+of-carries-requires-3 : tie.Need-of-carries-requires-3
+of-carries-requires-3 c κs = c .before .before .before .before .before .pre .1
+
+enum-known-kind-12 : tie.Need-enum-known-kind-12
+enum-known-kind-12 c = c .match .keys14
+
+width-at-requires-2 : tie.Need-width-at-requires-2
+width-at-requires-2 c κs = (subst (λ (k : Kind). Readable (now (c .before .before .before .before .before .args .file)) k) (c .before .kind12 .given .1)
+    (c .before .before .before .before .before .pre .0)) .first
+
+width-at-requires-3 : tie.Need-width-at-requires-3
+width-at-requires-3 c κs = (subst (λ (k : Kind). Readable (now (c .before .before .before .before .before .before .args .file)) k)
+    (c .before .before .kind12 .given .1) (c .before .before .before .before .before .before .pre .0)) .second
+
+of-comparison-requires : tie.Need-of-comparison-requires
+unfolding designOf recordAt
+of-comparison-requires c κs = let r = subst (λ (k : Kind). Readable (now (c .before .before .before .before .before .before .before .args .file)) k)
+    (c .before .before .before .kind12 .given .1) (c .before .before .before .before .before .before .before .pre .0) in (
+      subst (λ (w : ℕ). w ≤ 64) (sym (c .before .width-at2 .ensures)) (r .narrow-first),
+      subst (λ (w : ℕ). w ≤ 64) (sym (c .width-at3 .ensures)) (r .narrow-second),
+    )
+
+enum-known-kind-13 : tie.Need-enum-known-kind-13
+enum-known-kind-13 c = c .match .keys15
+
+width-at-requires-4 : tie.Need-width-at-requires-4
+width-at-requires-4 c κs = (subst (λ (k : Kind). Readable (now (c .before .before .before .before .before .args .file)) k) (c .before .kind13 .given .1)
+    (c .before .before .before .before .before .pre .0)) .first
+
+width-at-requires-5 : tie.Need-width-at-requires-5
+width-at-requires-5 c κs = (subst (λ (k : Kind). Readable (now (c .before .before .before .before .before .before .args .file)) k)
+    (c .before .before .kind13 .given .1) (c .before .before .before .before .before .before .pre .0)) .second
+
+of-comparison-requires-2 : tie.Need-of-comparison-requires-2
+unfolding designOf recordAt
+of-comparison-requires-2 c κs = let r = subst (λ (k : Kind). Readable (now (c .before .before .before .before .before .before .before .args .file)) k)
+    (c .before .before .before .kind13 .given .1) (c .before .before .before .before .before .before .before .pre .0) in (
+      subst (λ (w : ℕ). w ≤ 64) (sym (c .before .width-at4 .ensures)) (r .narrow-first),
+      subst (λ (w : ℕ). w ≤ 64) (sym (c .width-at5 .ensures)) (r .narrow-second),
+    )
+
+returns : tie.Need-returns
+returns c = rw (c .before .enum-told .given .1) (c .none .ensures)
+
+returns-2 : tie.Need-returns-2
+returns-2 c = rw (c .before .enum-told2 .given .1) (c .none2 .ensures)
+
+returns-3 : tie.Need-returns-3
+returns-3 c = rw (c .before .before .kind .given .1) (c .one .ensures)
+
+returns-4 : tie.Need-returns-4
+returns-4 c = rw (c .before .before .kind2 .given .1) (c .one2 .ensures)
+
+returns-5 : tie.Need-returns-5
+returns-5 c = rw (c .before .before .before .kind3 .given .1, ← c .before .shl .ensures) (c .one3 .ensures)
+
+returns-6 : tie.Need-returns-6
+unfolding designOf recordAt
+returns-6 c = rw (c .before .before .before .kind4 .given .1, ← c .before .width-at .ensures) (c .of-concat .ensures)
+
+returns-7 : tie.Need-returns-7
+returns-7 c = rw (c .before .before .kind5 .given .1) (c .two .ensures)
+
+returns-8 : tie.Need-returns-8
+returns-8 c = rw (c .before .before .kind6 .given .1) (c .two2 .ensures)
+
+returns-9 : tie.Need-returns-9
+returns-9 c = rw (c .before .before .kind7 .given .1) (c .two3 .ensures)
+
+returns-10 : tie.Need-returns-10
+returns-10 c = rw (c .before .before .kind8 .given .1) (c .three .ensures)
+
+returns-11 : tie.Need-returns-11
+returns-11 c = rw (c .before .before .kind9 .given .1) (c .of-carries .ensures)
+
+returns-12 : tie.Need-returns-12
+returns-12 c = rw (c .before .before .kind10 .given .1) (c .of-carries2 .ensures)
+
+returns-13 : tie.Need-returns-13
+returns-13 c = rw (c .before .before .kind11 .given .1) (c .of-carries3 .ensures)
+
+returns-14 : tie.Need-returns-14
+unfolding designOf recordAt
+returns-14 c = rw (c .before .before .before .before .kind12 .given .1, ← c .before .before .width-at2 .ensures, ← c .before .width-at3 .ensures)
+    (c .of-comparison .ensures)
+
+returns-15 : tie.Need-returns-15
+unfolding designOf recordAt
+returns-15 c = rw (c .before .before .before .before .kind13 .given .1, ← c .before .before .width-at4 .ensures, ← c .before .width-at5 .ensures)
+    (c .of-comparison2 .ensures)
+
+pub of-kind-spec : {M : Type 1} → statement M
+of-kind-spec =
+    tie.close
+    (tie.spec
+    enum-told
+    none-requires
+    enum-told-2
+    none-requires-2
+    enum-known-kind
+    one-requires
+    enum-known-kind-2
+    one-requires-2
+    enum-known-kind-3
+    shl-requires
+    one-requires-3
+    enum-known-kind-4
+    width-at-requires
+    of-concat-requires
+    enum-known-kind-5
+    two-requires
+    enum-known-kind-6
+    two-requires-2
+    enum-known-kind-7
+    two-requires-3
+    enum-known-kind-8
+    three-requires
+    enum-known-kind-9
+    of-carries-requires
+    enum-known-kind-10
+    of-carries-requires-2
+    enum-known-kind-11
+    of-carries-requires-3
+    enum-known-kind-12
+    width-at-requires-2
+    width-at-requires-3
+    of-comparison-requires
+    enum-known-kind-13
+    width-at-requires-4
+    width-at-requires-5
+    of-comparison-requires-2
+    returns
+    returns-2
+    returns-3
+    returns-4
+    returns-5
+    returns-6
+    returns-7
+    returns-8
+    returns-9
+    returns-10
+    returns-11
+    returns-12
+    returns-13
+    returns-14
+    returns-15)

@@ -1,0 +1,195 @@
+// What a record asks of its operands under the care rules, kind by kind.
+// A caller has an accepted file and a record of it, or an operand that the file holds.
+use bits::arith::shl;
+use bits::arith::shr;
+use bits::mask::bit_length;
+use bits::mask::cut_to;
+use bits::mask::low_entry;
+use bits::mask::low_mask;
+use netlist::layout::keep_at;
+use netlist::layout::record_at;
+use netlist::layout::uses_at;
+use netlist::layout::width_at;
+use netlist::record::Kind;
+use signal::Ask;
+ghost use mathlib.Core.Path.{_≡_};
+ghost use mathlib.Core.List.{[], _∷_};
+ghost use Prim.Native.Nat.{_+_, _≤_, _<_};
+ghost use lib.Dec.{ltb};
+ghost use lib.ListN.{length};
+ghost use Rattle.bits.specs.Words.{cut, down, lowMasks};
+ghost use Rattle.netlist.specs.Kinds.{usesOf};
+ghost use Rattle.netlist.specs.Layout.{designOf, countOf, recordStart, recordSize};
+ghost use Rattle.rules.specs.Sound.{Acceptance};
+ghost use Rattle.signal.specs.Asks.{ask, upToHighest, allIfAny, asksOf, asked};
+ghost use Rattle.demand.specs.Held.{listed, Serves, Readable};
+
+// What a record asks: the first `count` of three.
+pub struct Asks {
+    pub count: usize,
+    pub first: Ask,
+    pub second: Ask,
+    pub third: Ask,
+}
+
+impl Asks {
+    fn none() -> Asks
+        ensures { λ r. ⌜ listed r ≡ [] ⌝ }
+    {
+        let unused = Ask {
+            operand: 0,
+            mask: 0,
+        };
+        Asks {
+            count: 0,
+            first: unused,
+            second: unused,
+            third: unused,
+        }
+    }
+
+    fn one(a: usize, x: u64) -> Asks
+        ensures { λ r. ⌜ listed r ≡ ask a x ∷ [] ⌝ }
+    {
+        let unused = Ask {
+            operand: 0,
+            mask: 0,
+        };
+        Asks {
+            count: 1,
+            first: Ask {
+                operand: a,
+                mask: x,
+            },
+            second: unused,
+            third: unused,
+        }
+    }
+
+    fn two(a: usize, x: u64, b: usize, y: u64) -> Asks
+        ensures { λ r. ⌜ listed r ≡ ask a x ∷ ask b y ∷ [] ⌝ }
+    {
+        Asks {
+            count: 2,
+            first: Ask {
+                operand: a,
+                mask: x,
+            },
+            second: Ask {
+                operand: b,
+                mask: y,
+            },
+            third: Ask {
+                operand: 0,
+                mask: 0,
+            },
+        }
+    }
+
+    fn three(a: usize, x: u64, b: usize, y: u64, c: usize, z: u64) -> Asks
+        ensures { λ r. ⌜ listed r ≡ ask a x ∷ ask b y ∷ ask c z ∷ [] ⌝ }
+    {
+        Asks {
+            count: 3,
+            first: Ask {
+                operand: a,
+                mask: x,
+            },
+            second: Ask {
+                operand: b,
+                mask: y,
+            },
+            third: Ask {
+                operand: c,
+                mask: z,
+            },
+        }
+    }
+}
+
+// Every bit from 0 to the highest one in d, by the table of the low masks.
+fn up_to_highest(low: &[u64], d: u64) -> u64
+    requires { ⌜ now low ≡ lowMasks ⌝ }
+    ensures { λ r. ⌜ r ≡ upToHighest d ⌝ }
+{
+    low_entry(low, bit_length(d))
+}
+
+// All w bits if d is not 0, and nothing if it is.
+fn all_if_any(d: u64, w: u64) -> u64
+    requires { ⌜ w ≤ 64 ⌝ }
+    ensures { λ r. ⌜ r ≡ allIfAny w d ⌝ }
+{
+    if d == 0 { 0 } else { low_mask(w) }
+}
+
+// A sum, difference or product: a carry may reach every bit above it.
+fn of_carries(low: &[u64], a: usize, b: usize, d: u64) -> Asks
+    requires { ⌜ now low ≡ lowMasks ⌝ }
+    ensures { λ r. ⌜ listed r ≡ ask a (upToHighest d) ∷ ask b (upToHighest d) ∷ [] ⌝ }
+{
+    let bits = up_to_highest(low, d);
+    Asks::two(a, bits, b, bits)
+}
+
+// A comparison of operands of widths v and w.
+fn of_comparison(a: usize, v: u64, b: usize, w: u64, d: u64) -> Asks
+    requires { ⌜ (v ≤ 64) × (w ≤ 64) ⌝ }
+    ensures { λ r. ⌜ listed r ≡ ask a (allIfAny v d) ∷ ask b (allIfAny w d) ∷ [] ⌝ }
+{
+    Asks::two(a, all_if_any(d, v), b, all_if_any(d, w))
+}
+
+// A concat whose low operand b has w bits.
+fn of_concat(a: usize, b: usize, w: u64, d: u64) -> Asks
+    ensures { λ r. ⌜ listed r ≡ ask a (down w d) ∷ ask b (cut w d) ∷ [] ⌝ }
+{
+    Asks::two(a, shr(d, w), b, cut_to(d, w))
+}
+
+// What a kind asks, with d for D.
+fn of_kind(file: &[u8], low: &[u64], kind: Kind, d: u64) -> Asks
+    requires { ⌜ Readable (now file) kind × (now low ≡ lowMasks) ⌝ }
+    ensures { λ r. ⌜ listed r ≡ asksOf (designOf (now (file .entry)) .at) kind d ⌝ }
+{
+    match kind {
+        Kind::Input => Asks::none(),
+        Kind::Constant { k: _ } => Asks::none(),
+        Kind::Register { a, k: _ } => Asks::one(a, d),
+        Kind::Output { a } => Asks::one(a, d),
+        Kind::Extract { a, k } => Asks::one(a, shl(d, k)),
+        Kind::Concat { a, b } => of_concat(a, b, width_at(file, b), d),
+        Kind::And { a, b } => Asks::two(a, d, b, d),
+        Kind::Or { a, b } => Asks::two(a, d, b, d),
+        Kind::Xor { a, b } => Asks::two(a, d, b, d),
+        Kind::Mux { a, b, c } => Asks::three(a, 1, b, d, c, d),
+        Kind::Add { a, b } => of_carries(low, a, b, d),
+        Kind::Sub { a, b } => of_carries(low, a, b, d),
+        Kind::Mul { a, b } => of_carries(low, a, b, d),
+        Kind::Equal { a, b } => of_comparison(a, width_at(file, a), b, width_at(file, b), d),
+        Kind::Below { a, b } => of_comparison(a, width_at(file, a), b, width_at(file, b), d),
+    }
+}
+
+// Whether record i has fewer operands than a mux, and so asks for no bit when its D is 0.
+fn is_quiet(file: &[u8], i: usize) -> bool
+    requires { ⌜ recordStart i + recordSize ≤ length (now file) ⌝ }
+    ensures { λ r. ⌜ r ≡ ltb (usesOf (designOf (now (file .entry)) .at i .kind) .count) 3 ⌝ }
+{
+    let uses = uses_at(file, i);
+    uses.count < 3
+}
+
+// What record i asks when its mask is m, by a table of the low masks. Where nothing is asked, the kind is not looked at further.
+pub fn asked(file: &[u8], low: &[u64], i: usize, m: u64) -> Asks
+    requires { ⌜ Acceptance (now file) (countOf (now file)) × (i < countOf (now file)) × (now low ≡ lowMasks) ⌝ }
+    ensures { λ r. ⌜ Serves r (asked (designOf (now (file .entry)) .at) i m) ⌝ }
+{
+    let d = m & keep_at(file, i);
+    if d == 0 && is_quiet(file, i) {
+        return Asks::none();
+    }
+    let record = record_at(file, i);
+    let kind = record.kind;
+    of_kind(file, low, kind, d)
+}

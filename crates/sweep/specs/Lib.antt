@@ -1,0 +1,3 @@
+-- What the functions of a sweep promise to each other.
+-- Assumes nothing.
+pub mod Sweep
