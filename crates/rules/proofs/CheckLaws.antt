@@ -1,4 +1,4 @@
--- Laws of the check: a verdict from the tests made so far, and the rules of a record as the code has them at hand.
+-- Laws of the check: the order of the rules, a verdict from the tests made so far, and the rules of a record as the code has them at hand.
 -- Assumes nothing.
 use mathlib.Core.Path.{_≡_, refl, sym, ap, _∙_}
 use mathlib.Core.Bool.{Bool, true, false, cond}
@@ -9,6 +9,7 @@ use native.Mathlib.Numerals.{add-one}
 use native.Mathlib.Omega.{arith}
 use Rattle.netlist.specs.Kinds.{operandsOf, usesOf, widthRules}
 use Rattle.netlist.specs.Layout.{designOf, recordAt, countOf, widthAt}
+use Rattle.netlist.specs.Refusals.{numberOf}
 use Rattle.netlist.specs.Rules.{Rule, below, testAll, AllHold}
 use Rattle.netlist.specs.declared.refusal.Refusal.{Refusal}
 use Rattle.netlist.specs.declared.record.Record.{Record}
@@ -17,9 +18,22 @@ use Rattle.netlist.specs.declared.record.Role.the-variants.{Input, Register, Ou
 use Rattle.netlist.specs.declared.record.Uses.{Uses}
 use Rattle.netlist.proofs.Tests.{tests-hold, hold-tests}
 use Rattle.fit.specs.Fit.{operandLimit, namesRules, operandRules, widthRulesAt, wordRules}
-use Rattle.rules.specs.Check.{firstBroken, refuseAt, checkFrom, recordRules}
+use Rattle.rules.specs.Check.{headerRules, recordRules, firstBroken, refuseAt, checkFrom}
 use Rattle.rules.specs.declared.Verdict.{Verdict}
 use Rattle.rules.specs.declared.Verdict.the-variants.{Pass, Fail}
+
+-- "What is refused, in checking order": the refusals are tried in the order of their numbers
+abbrev pub numbersOf : List (Refusal × List Rule) → List ℕ
+numbersOf [] = []
+numbersOf (e ∷ es) = numberOf (e .0) ∷ numbersOf es
+
+pub header-order : (file : List ℕ) → numbersOf (headerRules file) ≡ 1 ∷ 2 ∷ 3 ∷ 4 ∷ 5 ∷ []
+unfolding headerRules
+header-order file = refl
+
+pub record-order : (file : List ℕ) (i : ℕ) → numbersOf (recordRules file i) ≡ 6 ∷ 7 ∷ 8 ∷ 9 ∷ 10 ∷ 10 ∷ []
+unfolding recordRules
+record-order file i = refl
 
 -- rules that hold leave the verdict to those after them; rules that do not are the verdict
 pub holding : (e : Refusal × List Rule) (es : List (Refusal × List Rule)) {v : Verdict} → testAll (e .1) ≡ true → v ≡ firstBroken es → v ≡ firstBroken (e ∷ es)
