@@ -5,7 +5,7 @@ use answer::tallied;
 use care::Tally;
 use checker::check;
 use endian::write_words;
-use masker::masks::fill;
+use masker::fill;
 use netlist::record::Record;
 use netlist::refusal::Refusal;
 use rules::Checked;

@@ -4,7 +4,7 @@ use care::Tally;
 use checker::check;
 use libc::STDIN_FILENO;
 use libc::STDOUT_FILENO;
-use masker::masks::fill;
+use masker::fill;
 use netlist::layout::HEADER;
 use netlist::layout::RECORD;
 use netlist::layout::width_at;

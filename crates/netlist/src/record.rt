@@ -1,5 +1,5 @@
 // A record of a netlist: its kind with the operands that the kind uses, and beside it the width and the keep word.
-// What the code knows of a kind stands here, in `fit` (the width rules, the number of an output) and in `signal`.
+// What the code knows of a kind stands here, in `fit` (the width rules, the number of an output), in `result` and in `demand`.
 ghost use mathlib.Core.Path.{_≡_};
 ghost use Rattle.netlist.specs.Kinds.{kindOf, usesOf, none, one, two, three};
 

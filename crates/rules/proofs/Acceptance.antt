@@ -97,6 +97,10 @@ accepted file n e =
       };
     }
 
+-- an accepted file may be spoken of with its own count
+pub with-count : {file : List ℕ} {n : ℕ} → Acceptance file n → Acceptance file (countOf file)
+with-count {file} a = subst (Acceptance file) (a .count) a
+
 -- an accepted file has no more records than the limit
 pub few : (file : List ℕ) (n : ℕ) → Acceptance file n → n ≤ maxCount
 unfolding designOf

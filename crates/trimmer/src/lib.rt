@@ -3,7 +3,7 @@
 use crate::write::write_trimmed;
 use care::Tallied;
 use checker::check;
-use masker::masks::fill;
+use masker::fill;
 use netlist::refusal::Refusal;
 use rules::Checked;
 ghost use mathlib.Core.Path.{_≡_};

@@ -1,13 +1,11 @@
 -- `masks::print_accepted` is safe: an accepted file has no more records than the local list has words.
 -- Assumes nothing.
-use mathlib.Core.Path.{sym, subst, _∙_}
-use Prim.Native.Nat.{ℕ}
+use mathlib.Core.Path.{sym, _∙_}
 use lib.Seq.{length-take-le}
 use borrow.Author.Needs.{needs}
 use denote.Ref.{now}
 use Rattle.endian.proofs.ListLaws.{front-within, taken-length}
-use Rattle.rules.specs.Sound.{Acceptance}
-use Rattle.rules.proofs.Acceptance.{few}
+use Rattle.rules.proofs.Acceptance.{few, with-count}
 use Rattle.care.proofs.LeastMasks.{masks-length}
 use Rattle.masks.proofs.print_accepted.Statement.{statement}
 use Rattle.masks.proofs.print_accepted.Tie as tie
@@ -26,7 +24,7 @@ fill-requires c κs = let args = c .before .before .args in
     let pre = c .before .before .pre in
     let file = now (args .file) in
     let a = pre in
-    (subst (λ (n : ℕ). Acceptance file n) (a .count) a, length-take-le (args .n) _ (few file (args .n) a) ∙ a .count)
+    (with-count a, length-take-le (args .n) _ (few file (args .n) a) ∙ a .count)
 
 print-tally-requires : tie.Need-print-tally-requires
 print-tally-requires c κs = search needs
@@ -49,7 +47,7 @@ print-masks-requires c κs = let fill = c .before .before .before .fill in
     let pre = c .before .before .before .before .before .before .pre in
     let file = now (args .file) in
     let a = pre in (
-      subst (λ (n : ℕ). Acceptance file n) (a .count) a,
+      with-count a,
       sym (taken-length (fill .last .1 .0) _ (masks-length file (args .n) a (fill .ensures .1))) ∙ a .count,
     )
 

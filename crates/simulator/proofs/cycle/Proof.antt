@@ -1,13 +1,12 @@
 -- `simulator::cycle` meets its contract: the file is refused, a list is refused, or the cycle is run.
 -- Assumes nothing.
-use mathlib.Core.Path.{sym, subst, _∙_}
+use mathlib.Core.Path.{sym, _∙_}
 use lib.ListN.{length}
 use borrow.Author.Tests.{not-true, not-false}
 use borrow.Author.Needs.{needs}
 use denote.Ref.{now}
 use Rattle.netlist.specs.Layout.{designOf}
-use Rattle.rules.specs.Sound.{Acceptance}
-use Rattle.rules.proofs.Acceptance.{accepted}
+use Rattle.rules.proofs.Acceptance.{accepted, with-count}
 use Rattle.clock.specs.Call.{bothHave, wordsAnswer}
 use Rattle.clock.proofs.CallLaws.{answer-refused, answer-bad-list, answer-fit, cycle-ends, both-fit}
 use Rattle.simulator.proofs.cycle.Statement.{statement}
@@ -44,7 +43,7 @@ run-requires c κs = let if1 = c .before .before .if1 in
     let a = accepted file _ (sym (check .ensures) ∙ n .given .1) in
     let b = both-fit _ _ _ (sym (both-have .ensures) ∙ not-false _ (if1 .left)) in
     let e = a .count in
-    (subst (Acceptance file) (a .count) a, b .0 ∙ e, b .1 ∙ e)
+    (with-count a, b .0 ∙ e, b .1 ∙ e)
 
 enum-known-r : tie.Need-enum-known-r
 enum-known-r c = c .match .keys2

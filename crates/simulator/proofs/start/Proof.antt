@@ -1,14 +1,13 @@
 -- `simulator::start` meets its contract: the file is refused, the list is refused, or the reset states are written.
 -- Assumes nothing.
-use mathlib.Core.Path.{sym, subst, _∙_}
+use mathlib.Core.Path.{sym, _∙_}
 use native.Mathlib.Omega.{arith}
 use lib.ListN.{length}
 use lib.Dec.{eqb}
 use borrow.Author.Tests.{eq-eqb, ne-eqb}
 use borrow.Author.Needs.{needs}
 use denote.Ref.{now}
-use Rattle.rules.specs.Sound.{Acceptance}
-use Rattle.rules.proofs.Acceptance.{accepted}
+use Rattle.rules.proofs.Acceptance.{accepted, with-count}
 use Rattle.clock.specs.declared.Clocked.the-variants.{Done}
 use Rattle.clock.proofs.CallLaws.{answer-refused, answer-bad-list, answer-fit, start-ends}
 use Rattle.simulator.proofs.start.Statement.{statement}
@@ -35,7 +34,7 @@ reset-requires c κs = let n = c .before .before .before .n in
     let args = c .before .before .before .before .before .before .before .before .args in
     let file = now (args .file) in
     let a = accepted file _ (sym (check .ensures) ∙ n .given .1) in
-    (subst (Acceptance file) (a .count) a, let t = c .before .if1 .left in let e = a .count in omega arith)
+    (with-count a, let t = c .before .if1 .left in let e = a .count in omega arith)
 
 enum-known-r : tie.Need-enum-known-r
 enum-known-r c = c .match .keys2

@@ -1,14 +1,13 @@
 -- `testport::reset_buffer` meets its contract: the words are filled into a local list, and its front is written as bytes.
 -- Assumes nothing.
-use mathlib.Core.Path.{sym, ap, subst, _∙_}
+use mathlib.Core.Path.{sym, ap, _∙_}
 use Prim.Native.Nat.{ℕ, _*_}
 use lib.Seq.{length-take-le}
 use borrow.Author.Needs.{needs}
 use denote.Ref.{now}
 use Rattle.endian.specs.Bytes.{wordBytes}
 use Rattle.endian.proofs.ListLaws.{front-within, front-taken, taken-length}
-use Rattle.rules.specs.Sound.{Acceptance}
-use Rattle.rules.proofs.Acceptance.{few}
+use Rattle.rules.proofs.Acceptance.{few, with-count}
 use Rattle.clock.proofs.StateLaws.{start-length}
 use Rattle.testport.proofs.reset_buffer.Statement.{statement}
 use Rattle.testport.proofs.reset_buffer.Tie as tie
@@ -26,7 +25,7 @@ reset-requires c κs = let args = c .before .before .before .args in
     let pre = c .before .before .before .pre in
     let file = now (args .file) in
     let a = pre .0 in
-    (subst (Acceptance file) (a .count) a, length-take-le (args .n) _ (few file (args .n) a) ∙ a .count)
+    (with-count a, length-take-le (args .n) _ (few file (args .n) a) ∙ a .count)
 
 array-share-prefix-words : tie.Need-array-share-prefix-words
 array-share-prefix-words c = let reset = c .before .before .reset in

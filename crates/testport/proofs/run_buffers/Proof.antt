@@ -1,12 +1,11 @@
 -- `testport::run_buffers` meets its contract: the fronts of two local lists are as long as the file has records.
 -- Assumes nothing.
-use mathlib.Core.Path.{sym, ap, subst, _∙_}
+use mathlib.Core.Path.{sym, ap, _∙_}
 use Prim.Native.Nat.{ℕ, _*_}
 use lib.Seq.{length-take-le}
 use borrow.Author.Needs.{needs}
 use denote.Ref.{now}
-use Rattle.rules.specs.Sound.{Acceptance}
-use Rattle.rules.proofs.Acceptance.{few}
+use Rattle.rules.proofs.Acceptance.{few, with-count}
 use Rattle.testport.proofs.run_buffers.Statement.{statement}
 use Rattle.testport.proofs.run_buffers.Tie as tie
 
@@ -38,7 +37,7 @@ run-words-requires c κs = let args = c .before .before .before .before .before 
     let size = ap (λ (n : ℕ). 8 * n) (a .count) in
     let words = length-take-le (args .n) _ (few file (args .n) a) ∙ a .count in
     record {
-      accepted = subst (Acceptance file) (a .count) a;
+      accepted = with-count a;
       board-size = pre .1 ∙ size;
       next-size = pre .2
           ∙ size;

@@ -1,13 +1,11 @@
 -- `trimmer::trim` meets its contract: the file, the mask list or the destination is refused, or both lists are written.
 -- Assumes nothing.
-use mathlib.Core.Path.{sym, ap, subst, _∙_}
-use Prim.Native.Nat.{ℕ}
+use mathlib.Core.Path.{sym, ap, _∙_}
 use native.Mathlib.Omega.{arith}
 use borrow.Author.Needs.{needs}
 use denote.Ref.{now}
 use Rattle.netlist.specs.Layout.{designOf}
-use Rattle.rules.specs.Sound.{Acceptance}
-use Rattle.rules.proofs.Acceptance.{accepted}
+use Rattle.rules.proofs.Acceptance.{accepted, with-count}
 use Rattle.care.specs.declared.Tallied.the-variants.{Done}
 use Rattle.care.specs.Call.{masksCall, fillMasks}
 use Rattle.care.proofs.LeastMasks.{masks-length}
@@ -49,7 +47,7 @@ fill-requires c κs = let args = c .before .before .before .before .before .befo
     let n = c .before .before .before .before .n in
     let file = now (args .file) in
     let a = accepted file _ (sym (check .ensures) ∙ n .given .1) in
-    (subst (λ (n : ℕ). Acceptance file n) (a .count) a, let t = c .before .before .if1 .left in let e = a .count in omega arith)
+    (with-count a, let t = c .before .before .if1 .left in let e = a .count in omega arith)
 
 write-trimmed-requires : tie.Need-write-trimmed-requires
 write-trimmed-requires c κs = let args = c .before .before .before .before .before .before .before .before .before .before .before .before .before
@@ -60,7 +58,7 @@ write-trimmed-requires c κs = let args = c .before .before .before .before .bef
     let fill = c .before .before .before .before .fill in
     let file = now (args .file) in
     let a = accepted file _ (sym (check .ensures) ∙ n .given .1) in
-    (subst (λ (n : ℕ). Acceptance file n) (a .count) a, masks-length file _ a (fill .ensures .1) ∙ a .count, let t = if2 .left in omega arith)
+    (with-count a, masks-length file _ a (fill .ensures .1) ∙ a .count, let t = if2 .left in omega arith)
 
 enum-known-r : tie.Need-enum-known-r
 enum-known-r c = c .match .keys2

@@ -1,12 +1,11 @@
 -- `desktop::masking::fill_buffer` meets its contract: the front of a local list and the buffer are filled.
 -- Assumes nothing.
-use mathlib.Core.Path.{sym, ap, subst, _∙_}
+use mathlib.Core.Path.{sym, ap, _∙_}
 use Prim.Native.Nat.{ℕ, _*_}
 use lib.Seq.{length-take-le}
 use borrow.Author.Needs.{needs}
 use denote.Ref.{now}
-use Rattle.rules.specs.Sound.{Acceptance}
-use Rattle.rules.proofs.Acceptance.{few}
+use Rattle.rules.proofs.Acceptance.{few, with-count}
 use Rattle.desktop.proofs.masking.fill_buffer.Statement.{statement}
 use Rattle.desktop.proofs.masking.fill_buffer.Tie as tie
 
@@ -21,7 +20,7 @@ fill-both-requires : tie.Need-fill-both-requires
 fill-both-requires c κs = let file = now (c .before .before .before .before .args .file) in
     let a = c .before .before .before .before .pre .0 in
     let l = length-take-le (c .before .before .before .before .args .n) _ (few file (c .before .before .before .before .args .n) a) in
-    (subst (λ (n : ℕ). Acceptance file n) (a .count) a, l ∙ a .count, c .before .before .before .before .pre .1 ∙ ap (λ (n : ℕ). 8 * n) (sym l))
+    (with-count a, l ∙ a .count, c .before .before .before .before .pre .1 ∙ ap (λ (n : ℕ). 8 * n) (sym l))
 
 same-length : tie.Need-same-length
 same-length c = search needs

@@ -1,13 +1,12 @@
 -- `desktop::trimming::trim_buffers` meets its contract: the masks are filled in, and the trimmed file is written by them.
 -- Assumes nothing.
-use mathlib.Core.Path.{sym, ap, subst, _∙_}
+use mathlib.Core.Path.{sym, ap, _∙_}
 use Prim.Native.Nat.{ℕ, _*_}
 use lib.Seq.{length-take-le}
 use borrow.Author.Needs.{needs}
 use denote.Ref.{now}
 use Rattle.endian.proofs.ListLaws.{front-within, front-taken, taken-length}
-use Rattle.rules.specs.Sound.{Acceptance}
-use Rattle.rules.proofs.Acceptance.{few}
+use Rattle.rules.proofs.Acceptance.{few, with-count}
 use Rattle.care.proofs.LeastMasks.{masks-length}
 use Rattle.trim.specs.Trimmed.{trimmedBy}
 use Rattle.desktop.proofs.trimming.trim_buffers.Statement.{statement}
@@ -26,7 +25,7 @@ fill-both-requires c κs = let start = c .before .before .before .before .before
     let file = now (start .args .file) in
     let a = start .pre .0 in
     let l = length-take-le (start .args .n) _ (few file (start .args .n) a) in
-    (subst (λ (n : ℕ). Acceptance file n) (a .count) a, l ∙ a .count, start .pre .1 ∙ ap (λ (n : ℕ). 8 * n) (sym l))
+    (with-count a, l ∙ a .count, start .pre .1 ∙ ap (λ (n : ℕ). 8 * n) (sym l))
 
 array-share-prefix-words : tie.Need-array-share-prefix-words
 array-share-prefix-words c = let start = c .before .before .before .before .before .before .before .before .before in
@@ -44,7 +43,7 @@ write-trimmed-requires c κs = let start = c .before .before .before .before .be
     let file = now (start .args .file) in
     let a = start .pre .0 in
     let l = masks-length file (start .args .n) a (fill-both .ensures .1 .0) in
-    (subst (λ (n : ℕ). Acceptance file n) (a .count) a, sym (taken-length (fill-both .last .1 .0) _ l) ∙ a .count, start .pre .2)
+    (with-count a, sym (taken-length (fill-both .last .1 .0) _ l) ∙ a .count, start .pre .2)
 
 same-length : tie.Need-same-length
 same-length c = search needs

@@ -1,4 +1,4 @@
--- `masker::masks::fill` meets its contract: the seed, raised to the smallest closed family, and its tally.
+-- `masker::fill` meets its contract: the seed, raised to the smallest closed family, and its tally.
 -- Assumes nothing.
 use mathlib.Core.List.{List}
 use mathlib.Core.Path.{sym, ap, subst, _∙_}
@@ -9,8 +9,8 @@ use Rattle.netlist.specs.Layout.{designOf}
 use Rattle.care.specs.Least.{leastAbove, masksOf, Fits}
 use Rattle.care.specs.Call.{tallyOf}
 use Rattle.care.proofs.LeastMasks.{seed-fits, masks-fit}
-use Rattle.masker.proofs.masks.fill.Statement.{statement}
-use Rattle.masker.proofs.masks.fill.Tie as tie
+use Rattle.masker.proofs.fill.Statement.{statement}
+use Rattle.masker.proofs.fill.Tie as tie
 
 seed-requires : tie.Need-seed-requires
 seed-requires c κs = c .before .before .before .pre

@@ -1,4 +1,4 @@
--- `masker::masks::seed` meets its contract: after i turns the first i words are the seed's.
+-- `masker::seed` meets its contract: after i turns the first i words are the seed's.
 -- Assumes nothing.
 use mathlib.Core.Path.{sym, _∙_}
 use Prim.Native.Nat.{_-_}
@@ -6,8 +6,8 @@ use native.Mathlib.Omega.{arith}
 use Rattle.endian.proofs.ListLaws.{Filled, filled-none, filled-next, filled-all}
 use Rattle.netlist.specs.Layout.{designOf, countOf}
 use Rattle.care.specs.Least.{outputSeed}
-use Rattle.masker.proofs.masks.seed.Statement.{statement}
-use Rattle.masker.proofs.masks.seed.Tie as tie
+use Rattle.masker.proofs.seed.Statement.{statement}
+use Rattle.masker.proofs.seed.Tie as tie
 
 abbrev Inv-loop : tie.InvT-loop
 Inv-loop file list₀ i₀ list i = Filled (outputSeed (designOf file)) (countOf file) list i

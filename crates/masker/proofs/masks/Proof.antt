@@ -1,18 +1,16 @@
--- `masker::masks::masks` meets its contract: the file is refused, the list is refused, or the masks are filled in.
+-- `masker::masks` meets its contract: the file is refused, the list is refused, or the masks are filled in.
 -- Assumes nothing.
-use mathlib.Core.Path.{sym, ap, subst, _∙_}
-use Prim.Native.Nat.{ℕ}
+use mathlib.Core.Path.{sym, ap, _∙_}
 use native.Mathlib.Omega.{arith}
 use borrow.Author.Needs.{needs}
 use denote.Ref.{now}
 use Rattle.netlist.specs.Layout.{designOf}
-use Rattle.rules.specs.Sound.{Acceptance}
-use Rattle.rules.proofs.Acceptance.{accepted}
+use Rattle.rules.proofs.Acceptance.{accepted, with-count}
 use Rattle.care.specs.Call.{masksCall, fillMasks}
 use Rattle.care.specs.declared.Tallied.the-variants.{Done}
 use Rattle.care.proofs.CallLaws.{both-of, call-refused, call-bad-list, call-filled}
-use Rattle.masker.proofs.masks.masks.Statement.{statement}
-use Rattle.masker.proofs.masks.masks.Tie as tie
+use Rattle.masker.proofs.masks.Statement.{statement}
+use Rattle.masker.proofs.masks.Tie as tie
 
 check-requires : tie.Need-check-requires
 check-requires c κs = tt
@@ -31,7 +29,7 @@ fill-requires : tie.Need-fill-requires
 fill-requires c κs = let args = c .before .before .before .before .before .before .before .before .args in
     let file = now (args .file) in
     let a = accepted file _ (sym (c .before .before .before .before .before .check .ensures) ∙ c .before .before .before .n .given .1) in
-    (subst (λ (n : ℕ). Acceptance file n) (a .count) a, let t = c .before .if1 .left in let e = a .count in omega arith)
+    (with-count a, let t = c .before .if1 .left in let e = a .count in omega arith)
 
 enum-known-r : tie.Need-enum-known-r
 enum-known-r c = c .match .keys2

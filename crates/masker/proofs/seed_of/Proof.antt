@@ -1,7 +1,7 @@
--- `masker::masks::seed_of` meets its contract: each role has its line in the definition.
+-- `masker::seed_of` meets its contract: each role has its line in the definition.
 -- Assumes nothing.
-use Rattle.masker.proofs.masks.seed_of.Statement.{statement}
-use Rattle.masker.proofs.masks.seed_of.Tie as tie
+use Rattle.masker.proofs.seed_of.Statement.{statement}
+use Rattle.masker.proofs.seed_of.Tie as tie
 
 enum-told : tie.Need-enum-told
 enum-told c = c .match .keys1

@@ -1,4 +1,4 @@
--- `masker::masks::seed_at` meets its contract: the seed goes by the record's role and width.
+-- `masker::seed_at` meets its contract: the seed goes by the record's role and width.
 -- Assumes nothing.
 use mathlib.Core.Path.{sym, ap, subst, _∙_}
 use Prim.Native.Nat.{ℕ, _≤_}
@@ -7,8 +7,8 @@ use Rattle.netlist.specs.Layout.{designOf, recordAt}
 use Rattle.netlist.specs.declared.record.Uses.{Uses}
 use Rattle.rules.proofs.Acceptance.{holds-record}
 use Rattle.care.specs.Least.{seedOf}
-use Rattle.masker.proofs.masks.seed_at.Statement.{statement}
-use Rattle.masker.proofs.masks.seed_at.Tie as tie
+use Rattle.masker.proofs.seed_at.Statement.{statement}
+use Rattle.masker.proofs.seed_at.Tie as tie
 
 uses-at-requires : tie.Need-uses-at-requires
 uses-at-requires c κs = holds-record (now (c .before .args .file)) (c .before .pre .0) (c .before .args .i) (c .before .pre .1)
