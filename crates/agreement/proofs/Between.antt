@@ -11,10 +11,9 @@ use Rattle.bits.specs.Masks.{Agree}
 use Rattle.bits.proofs.Agreement.{agree-refl, agree-within}
 use Rattle.bits.proofs.Order.{meet-left}
 use Rattle.netlist.specs.Kinds.{isHeld}
-use Rattle.netlist.specs.Layout.{Design}
+use Rattle.netlist.specs.Layout.{Design, roleAt}
 use Rattle.netlist.specs.declared.record.Role.{Role}
 use Rattle.netlist.specs.declared.record.Role.the-variants.{Input, Register, Output, Gate}
-use Rattle.fit.specs.Fit.{roleAt}
 use Rattle.rules.specs.Sound.{Sound}
 use Rattle.rules.proofs.SoundLaws.{register-loads}
 use Rattle.signal.specs.Asks.{caredOf, Granted}

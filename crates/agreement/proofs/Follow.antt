@@ -7,15 +7,14 @@ use Rattle.bits.specs.Masks.{Agree}
 use Rattle.bits.proofs.Agreement.{agree-refl, agree-by-bits}
 use Rattle.bits.proofs.Digits.{bit-lt, bit-and}
 use Rattle.netlist.specs.Kinds.{usesOf}
-use Rattle.netlist.specs.Layout.{Design, designOf}
+use Rattle.netlist.specs.Layout.{Design, designOf, roleAt}
 use Rattle.netlist.specs.declared.record.Kind.{Kind}
 use Rattle.netlist.specs.declared.record.Record.{Record}
-use Rattle.fit.specs.Fit.{roleAt}
 use Rattle.rules.specs.Check.{checkOf}
 use Rattle.rules.specs.Sound.{Sound, SameDesign}
 use Rattle.rules.specs.declared.Checked.the-variants.{Accepted}
 use Rattle.rules.proofs.SoundLaws.{operands-below}
-use Rattle.result.specs.Results.{resultAt}
+use Rattle.signal.specs.Results.{resultAt}
 use Rattle.signal.specs.Asks.{caredOf}
 use Rattle.care.specs.Least.{maskAt}
 use Rattle.trim.specs.Trimmed.{trimmedBy, trimDesign}

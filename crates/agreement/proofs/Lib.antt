@@ -1,4 +1,4 @@
--- The claim about two runs, what it rests on, and the table of examples.
+-- The claim about two runs, and what it rests on.
 -- Assumes nothing.
 pub mod RunLaws
 pub mod ScrambleLaws
@@ -7,4 +7,3 @@ pub mod OneCycle
 pub mod Between
 pub mod Chains
 pub mod TwoRuns
-pub mod Examples

@@ -12,10 +12,9 @@ use Rattle.endian.specs.Lists.{wordAt}
 use Rattle.bits.specs.Masks.{Agree}
 use Rattle.bits.proofs.Agreement.{agree-refl, agree-sym, agree-trans, agree-within, agree-keep, agree-and}
 use Rattle.netlist.specs.Kinds.{isHeld}
-use Rattle.netlist.specs.Layout.{Design}
-use Rattle.fit.specs.Fit.{roleAt}
+use Rattle.netlist.specs.Layout.{Design, roleAt}
 use Rattle.rules.specs.Sound.{Sound}
-use Rattle.result.specs.Results.{resultAt}
+use Rattle.signal.specs.Results.{resultAt}
 use Rattle.signal.specs.Asks.{caredOf, asked, Granted}
 use Rattle.signal.specs.AskLists.{Named}
 use Rattle.signal.specs.declared.Ask.{Ask}

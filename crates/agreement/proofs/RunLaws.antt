@@ -8,11 +8,10 @@ use lib.ListN.{length}
 use lib.Seq.{ext-getD}
 use Rattle.endian.specs.Lists.{wordAt}
 use Rattle.endian.proofs.ListLaws.{length-words, word-at}
-use Rattle.netlist.specs.Layout.{Design, designOf}
+use Rattle.netlist.specs.Layout.{Design, designOf, roleAt}
 use Rattle.netlist.specs.declared.refusal.Refusal.{Refusal}
 use Rattle.netlist.specs.declared.record.Role.{Role}
 use Rattle.netlist.specs.declared.record.Role.the-variants.{Input, Register, Output, Gate}
-use Rattle.fit.specs.Fit.{roleAt}
 use Rattle.clock.specs.Call.{startCall, cycleWith}
 use Rattle.clock.specs.declared.Clocked.{Clocked}
 use Rattle.clock.specs.declared.Clocked.the-variants.{Refused}

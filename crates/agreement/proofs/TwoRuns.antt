@@ -12,10 +12,9 @@ use Rattle.bits.specs.Masks.{Agree, Within}
 use Rattle.bits.specs.Words.{lowMask}
 use Rattle.bits.proofs.Agreement.{agree-within, agree-equal}
 use Rattle.netlist.specs.Kinds.{isOutput}
-use Rattle.netlist.specs.Layout.{Design, designOf}
+use Rattle.netlist.specs.Layout.{Design, designOf, roleAt}
 use Rattle.netlist.specs.declared.record.Role.{Role}
 use Rattle.netlist.specs.declared.record.Role.the-variants.{Input, Output}
-use Rattle.fit.specs.Fit.{roleAt}
 use Rattle.rules.specs.Check.{checkOf}
 use Rattle.rules.specs.Sound.{Sound}
 use Rattle.rules.specs.declared.Checked.the-variants.{Accepted}

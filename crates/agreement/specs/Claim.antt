@@ -6,9 +6,8 @@ use Prim.Native.Nat.{ℕ, _<_}
 use lib.ListN.{length}
 use Rattle.endian.specs.Lists.{wordAt}
 use Rattle.bits.specs.Masks.{Agree}
-use Rattle.netlist.specs.Layout.{Design, designOf}
+use Rattle.netlist.specs.Layout.{Design, designOf, roleAt}
 use Rattle.netlist.specs.declared.record.Role.the-variants.{Input, Register, Output}
-use Rattle.fit.specs.Fit.{roleAt}
 use Rattle.rules.specs.Check.{checkOf}
 use Rattle.rules.specs.declared.Checked.the-variants.{Accepted}
 use Rattle.care.specs.Least.{maskAt, masksOf}

@@ -1,6 +1,5 @@
--- What two whole runs have in common: runs of calls, scrambled runs, the claim about two runs, and the table of examples.
+-- What two whole runs have in common: runs of calls, scrambled runs, and the claim about two runs.
 -- Assumes nothing.
 pub mod Runs
 pub mod Scrambled
 pub mod Claim
-pub mod Examples

@@ -1,7 +1,7 @@
 // The values of a cycle, worked out in a board list in rising order.
 // A caller has an accepted file and a board list of n words.
 use netlist::layout::keep_at;
-use result::table::result_at;
+use result::result_at;
 ghost use mathlib.Core.Path.{_≡_};
 ghost use Prim.Native.Nat.{_<_};
 ghost use lib.ListN.{length};

@@ -16,8 +16,7 @@ use Rattle.bits.specs.Words.{lowMask, countOnes}
 use Rattle.bits.proofs.Growth.{countOnes-mono, countOnes-le, growth}
 use Rattle.bits.proofs.Order.{within-refl, within-antisym, within-zero, low-within}
 use Rattle.netlist.specs.Kinds.{isOutput}
-use Rattle.netlist.specs.Layout.{Design, designOf}
-use Rattle.fit.specs.Fit.{roleAt}
+use Rattle.netlist.specs.Layout.{Design, designOf, roleAt}
 use Rattle.rules.specs.Sound.{Sound, Acceptance}
 use Rattle.rules.proofs.SoundLaws.{word-64}
 use Rattle.signal.specs.Asks.{asked, Granted}

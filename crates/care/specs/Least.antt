@@ -11,9 +11,8 @@ use Rattle.endian.specs.Lists.{wordAt, wordsOf, sumTo}
 use Rattle.bits.specs.Masks.{Within}
 use Rattle.bits.specs.Words.{lowMask, countOnes}
 use Rattle.netlist.specs.Kinds.{isOutput}
-use Rattle.netlist.specs.Layout.{Design}
+use Rattle.netlist.specs.Layout.{Design, roleAt}
 use Rattle.netlist.specs.declared.record.Role.{Role}
-use Rattle.fit.specs.Fit.{roleAt}
 use Rattle.signal.specs.Asks.{asked, Granted}
 use Rattle.signal.specs.declared.Ask.{Ask}
 

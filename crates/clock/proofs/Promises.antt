@@ -7,10 +7,9 @@ use Prim.Native.Nat.{ℕ, _<_}
 use native.Mathlib.Omega.{arith}
 use lib.ListN.{length, set}
 use Rattle.endian.specs.Lists.{wordAt}
-use Rattle.netlist.specs.Layout.{designOf, countOf}
+use Rattle.netlist.specs.Layout.{designOf, countOf, roleAt}
 use Rattle.netlist.specs.declared.refusal.Refusal.{Refusal}
 use Rattle.netlist.specs.declared.refusal.Refusal.the-variants.{BadList}
-use Rattle.fit.specs.Fit.{roleAt}
 use Rattle.rules.specs.Sound.{Sound}
 use Rattle.rules.specs.declared.Checked.{Checked}
 use Rattle.rules.specs.declared.Checked.the-variants.{Accepted, Refused as refused}

@@ -9,10 +9,9 @@ use lib.Pow.{pow-pos}
 use borrow.Author.Tests.{lt-ltb}
 use Rattle.endian.specs.Lists.{wordAt}
 use Rattle.endian.proofs.ListLaws.{length-words, word-at}
-use Rattle.netlist.specs.Layout.{Design, designOf}
+use Rattle.netlist.specs.Layout.{Design, designOf, roleAt}
 use Rattle.netlist.specs.declared.record.Role.{Role}
 use Rattle.netlist.specs.declared.record.Role.the-variants.{Input, Register, Output, Gate}
-use Rattle.fit.specs.Fit.{roleAt}
 use Rattle.rules.specs.Sound.{Sound, Acceptance}
 use Rattle.rules.proofs.SoundLaws.{register-loads}
 use Rattle.clock.specs.Call.{wordIsWide, isWide}

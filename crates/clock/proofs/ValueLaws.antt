@@ -15,10 +15,9 @@ use Rattle.endian.specs.Lists.{wordAt}
 use Rattle.bits.specs.Masks.{Within}
 use Rattle.bits.proofs.Order.{meet-right, within-lt}
 use Rattle.netlist.specs.Kinds.{isHeld}
-use Rattle.netlist.specs.Layout.{Design}
-use Rattle.fit.specs.Fit.{roleAt}
+use Rattle.netlist.specs.Layout.{Design, roleAt}
 use Rattle.rules.specs.Sound.{Sound}
-use Rattle.result.specs.Results.{resultAt}
+use Rattle.signal.specs.Results.{resultAt}
 use Rattle.signal.proofs.ResultLaws.{result-same}
 use Rattle.clock.specs.Values.{unchanged, valueAt, valuesTo, valuesOf}
 

@@ -5,11 +5,10 @@ use Prim.Native.Nat.{ℕ, zero, suc}
 use lib.Bits.{bitAnd}
 use lib.ListN.{set}
 use Rattle.endian.specs.Lists.{wordAt, wordsOf}
-use Rattle.netlist.specs.Layout.{Design}
+use Rattle.netlist.specs.Layout.{Design, roleAt}
 use Rattle.netlist.specs.declared.record.Role.{Role}
 use Rattle.netlist.specs.declared.record.Role.the-variants.{Input, Register, Output, Gate}
-use Rattle.fit.specs.Fit.{roleAt}
-use Rattle.result.specs.Results.{resultAt}
+use Rattle.signal.specs.Results.{resultAt}
 
 -- "The board list has n words of 64 bits. Before a cycle it holds each pin's word at its input and each state at its register; other words
 -- may be anything." A next list has n words too: the board list of the cycle that follows, before new words are put at the inputs.

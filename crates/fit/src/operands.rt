@@ -8,9 +8,9 @@ ghost use mathlib.Core.List.{[], _∷_};
 ghost use Prim.Native.Nat.{_≤_};
 ghost use lib.ListN.{length};
 ghost use Rattle.netlist.specs.Kinds.{isOutput, operandsOf};
-ghost use Rattle.netlist.specs.Layout.{recordStart, designOf};
+ghost use Rattle.netlist.specs.Layout.{recordStart, designOf, roleAt};
 ghost use Rattle.netlist.specs.Rules.{below, isNot, testAll};
-ghost use Rattle.fit.specs.Fit.{operandLimit, roleAt, namesRules};
+ghost use Rattle.rules.specs.Fit.{operandLimit, namesRules};
 
 // What the operands of record i, of n, have to stay below.
 pub fn operand_limit(role: Role, n: usize, i: usize) -> usize

@@ -7,7 +7,7 @@ ghost use mathlib.Core.List.{[], _∷_};
 ghost use Prim.Native.Nat.{_+_};
 ghost use Rattle.netlist.specs.Kinds.{widthRules};
 ghost use Rattle.netlist.specs.Rules.{equal, atMost, testAll};
-ghost use Rattle.fit.specs.Fit.{widthRange};
+ghost use Rattle.rules.specs.Fit.{widthRange};
 
 fn one_equal(x: u64, y: u64) -> bool
     ensures { λ r. ⌜ r ≡ testAll (equal x y ∷ []) ⌝ }

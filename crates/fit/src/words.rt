@@ -7,7 +7,7 @@ ghost use mathlib.Core.Path.{_≡_};
 ghost use mathlib.Core.List.{[], _∷_};
 ghost use Prim.Native.Nat.{_^_};
 ghost use Rattle.netlist.specs.Rules.{below, testAll};
-ghost use Rattle.fit.specs.Fit.{fieldRules};
+ghost use Rattle.rules.specs.Fit.{fieldRules};
 
 // The fields of the file are those that the kind uses, and 0 elsewhere.
 pub fn fields_fit(f: Fields, u: Uses) -> bool

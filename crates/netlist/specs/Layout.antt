@@ -4,9 +4,10 @@ use mathlib.Core.List.{List}
 use Prim.Native.Nat.{ℕ, _+_, _*_}
 use lib.ListN.{getD}
 use Rattle.endian.specs.Bytes.{numberAt}
-use Rattle.netlist.specs.Kinds.{kindOf}
+use Rattle.netlist.specs.Kinds.{kindOf, usesOf}
 use Rattle.netlist.specs.declared.record.Fields.{Fields}
 use Rattle.netlist.specs.declared.record.Record.{Record}
+use Rattle.netlist.specs.declared.record.Role.{Role}
 
 -- A design: the count of its records and the record of each number. Record i defines signal i.
 pub record Design : Type 0 where
@@ -63,3 +64,7 @@ recordAt file i = record { kind = kindOf (codeAt file i) (fieldsAt file i); widt
 -- The design that a file holds.
 unfoldable pub designOf : List ℕ → Design
 designOf file = record { count = countOf file; at = recordAt file }
+
+-- The role of record i of a design.
+abbrev pub roleAt : Design → ℕ → Role
+roleAt d i = usesOf (d .at i .kind) .role

@@ -1,4 +1,3 @@
--- The laws of results.
+-- That the operands of an accepted file's records can be read, for the proofs of this crate.
 -- Assumes nothing.
-pub mod Reading
-pub mod ResultWidths
+mod Reading

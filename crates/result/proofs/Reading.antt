@@ -10,7 +10,7 @@ use Rattle.netlist.specs.declared.record.Record.{Record}
 use Rattle.netlist.specs.declared.record.Uses.{Uses}
 use Rattle.rules.specs.Sound.{Acceptance}
 use Rattle.rules.proofs.SoundLaws.{OperandsBelow, operands-below}
-use Rattle.result.specs.Results.{resultOf, resultAt}
+use Rattle.signal.specs.Results.{resultOf, resultAt}
 
 module _ (file : List ℕ) (a : Acceptance file (countOf file)) (i : ℕ) (h : i < countOf file) where
   -- of a record as the code has read it, and of what its kind uses

@@ -10,7 +10,7 @@ use lib.ListN.{length}
 use Rattle.netlist.specs.Limits.{maxCount}
 use Rattle.netlist.specs.Layout.{designOf, countOf, recordStart, recordSize}
 use Rattle.netlist.specs.declared.refusal.Refusal.{Refusal}
-use Rattle.fit.specs.Fit.{wordRules}
+use Rattle.rules.specs.Fit.{wordRules}
 use Rattle.rules.specs.Check.{checkOf, checkFrom, refuseAt, firstBroken, headerRules, recordRules}
 use Rattle.rules.specs.Sound.{Acceptance}
 use Rattle.rules.specs.declared.Checked.{Checked}

@@ -12,7 +12,7 @@ use Rattle.endian.specs.Bytes.{numberAt, bytes}
 use Rattle.netlist.specs.Kinds.{codeOf, usesOf}
 use Rattle.netlist.specs.Layout.{designOf, recordAt, codeAt, widthAt, fieldsAt, keepAt, countOf, byteAt, recordStart}
 use Rattle.netlist.proofs.KindLaws.{code-back}
-use Rattle.fit.specs.Fit.{fieldRules}
+use Rattle.rules.specs.Fit.{fieldRules}
 use Rattle.rules.specs.Check.{checkOf, headerRules, recordRules}
 use Rattle.rules.specs.Encode.{encode, encodeFrom, encodeRecord, AreBytes}
 use Rattle.rules.specs.declared.Checked.the-variants.{Accepted}

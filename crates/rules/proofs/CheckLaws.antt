@@ -17,7 +17,7 @@ use Rattle.netlist.specs.declared.record.Role.{Role}
 use Rattle.netlist.specs.declared.record.Role.the-variants.{Input, Register, Output, Gate}
 use Rattle.netlist.specs.declared.record.Uses.{Uses}
 use Rattle.netlist.proofs.Tests.{tests-hold, hold-tests}
-use Rattle.fit.specs.Fit.{operandLimit, namesRules, operandRules, widthRulesAt, wordRules}
+use Rattle.rules.specs.Fit.{operandLimit, namesRules, operandRules, widthRulesAt, wordRules}
 use Rattle.rules.specs.Check.{headerRules, recordRules, firstBroken, refuseAt, checkFrom}
 use Rattle.rules.specs.declared.Verdict.{Verdict}
 use Rattle.rules.specs.declared.Verdict.the-variants.{Pass, Fail}

@@ -13,7 +13,7 @@ use Rattle.netlist.specs.Layout.{Design, designOf, recordAt, codeAt, widthAt, f
 use Rattle.netlist.specs.Rules.{AllHold}
 use Rattle.netlist.specs.declared.record.Kind.{Kind}
 use Rattle.netlist.proofs.KindLaws.{usedFields, kind-back, code-low}
-use Rattle.fit.specs.Fit.{fieldRules, wordRules}
+use Rattle.rules.specs.Fit.{fieldRules, wordRules}
 use Rattle.rules.specs.Check.{checkOf, headerRules, recordRules}
 use Rattle.rules.specs.Encode.{encode, encodeFrom, encodeRecord, AreBytes, StandsFor}
 use Rattle.rules.specs.Sound.{Sound, SameDesign}

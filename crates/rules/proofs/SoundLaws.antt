@@ -10,7 +10,7 @@ use lib.Dec.{lit<}
 use lib.Pow.{pow-mono}
 use Rattle.netlist.specs.Limits.{maxWidth}
 use Rattle.netlist.specs.Kinds.{operandsOf, isOutput, usesOf, widthRules}
-use Rattle.netlist.specs.Layout.{Design}
+use Rattle.netlist.specs.Layout.{Design, roleAt}
 use Rattle.netlist.specs.Rules.{AllHold}
 use Rattle.netlist.specs.declared.record.Kind.{Kind}
 use Rattle.netlist.specs.declared.record.Kind.the-variants.{Input, Constant, Register, Output, Extract, Concat, And, Or, Xor, Mux, Add, Sub, Mul, Equal, Below}
@@ -20,9 +20,9 @@ use Rattle.netlist.specs.declared.record.Role.the-variants.{Register as registe
 use Rattle.netlist.specs.declared.record.Uses.{Uses}
 use Rattle.netlist.proofs.KindLaws.{padded, is-register}
 use Rattle.netlist.proofs.Tests.{hold-tests}
-use Rattle.fit.specs.Fit.{roleAt, operandLimit, namesRules, operandRules, widthRulesAt}
-use Rattle.fit.proofs.OperandLaws.{operand-below}
+use Rattle.rules.specs.Fit.{operandLimit, namesRules, operandRules, widthRulesAt}
 use Rattle.rules.specs.Sound.{Sound, SoundRecord, SameDesign}
+use Rattle.rules.proofs.OperandLaws.{operand-below}
 use Rattle.rules.proofs.CheckLaws.{limit-le}
 
 -- the operand fields of what a kind uses lie below n

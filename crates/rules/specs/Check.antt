@@ -10,7 +10,7 @@ use Rattle.netlist.specs.Layout.{designOf, headerSize, recordSize, byteAt, vers
 use Rattle.netlist.specs.Rules.{Rule, equal, below, atMost, testAll}
 use Rattle.netlist.specs.declared.refusal.Refusal.{Refusal}
 use Rattle.netlist.specs.declared.refusal.Refusal.the-variants.{TooShort, BadMark, BadVersion, TooManyRecords, BadLength, BadKind, BadWidth, BadOperand, BadWidthRule, UnusedBit}
-use Rattle.fit.specs.Fit.{widthRange, operandRules, widthRulesAt, fieldRules, wordRules}
+use Rattle.rules.specs.Fit.{widthRange, operandRules, widthRulesAt, fieldRules, wordRules}
 use Rattle.rules.specs.declared.Checked.{Checked}
 use Rattle.rules.specs.declared.Checked.the-variants.{Accepted, Refused}
 use Rattle.rules.specs.declared.Verdict.{Verdict}

@@ -8,7 +8,7 @@ use Rattle.netlist.specs.Limits.{maxWidth, maxCount}
 use Rattle.netlist.specs.Kinds.{usesOf}
 use Rattle.netlist.specs.Layout.{Design, designOf, countOf, recordStart}
 use Rattle.netlist.specs.Rules.{AllHold}
-use Rattle.fit.specs.Fit.{operandRules, widthRulesAt}
+use Rattle.rules.specs.Fit.{operandRules, widthRulesAt}
 
 -- What acceptance says of record i: its width lies within the limits, its operands are in range and no outputs, its kind's
 -- width rule holds, and its keep word and the k of a constant or register have no bit at w or above.

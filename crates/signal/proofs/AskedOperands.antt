@@ -5,14 +5,14 @@ use mathlib.Core.Bool.{false}
 use mathlib.Core.List.{[], _∷_}
 use Prim.Native.Nat.{ℕ, _<_}
 use Rattle.netlist.specs.Kinds.{usesOf, operandsOf, isHeld}
-use Rattle.netlist.specs.Layout.{Design}
+use Rattle.netlist.specs.Layout.{Design, roleAt}
 use Rattle.netlist.specs.Rules.{AllHold}
 use Rattle.netlist.specs.declared.record.Kind.{Kind}
 use Rattle.netlist.specs.declared.record.Kind.the-variants.{Input, Constant, Register, Output, Extract, Concat, And, Or, Xor, Mux, Add, Sub, Mul, Equal, Below}
 use Rattle.netlist.specs.declared.record.Record.{Record}
 use Rattle.netlist.specs.declared.record.Role.the-variants.{Register as register}
 use Rattle.netlist.proofs.KindLaws.{is-register}
-use Rattle.fit.specs.Fit.{roleAt, namesRules}
+use Rattle.rules.specs.Fit.{namesRules}
 use Rattle.rules.specs.Sound.{Sound}
 use Rattle.signal.specs.Asks.{ask, asksOf, caredOf, asked}
 use Rattle.signal.specs.AskLists.{Named}

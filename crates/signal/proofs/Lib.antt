@@ -1,5 +1,6 @@
--- What the crates above may cite: the laws of the care rules, and those that join them to results.
+-- What the crates above may cite: the laws of results, those of the care rules, and those that join the two.
 -- Assumes nothing.
+pub mod ResultWidths
 pub mod RuleLaws
 pub mod ResultLaws
 pub mod AskedOperands

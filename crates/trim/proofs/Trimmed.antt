@@ -13,7 +13,7 @@ use Rattle.bits.proofs.Order.{meet-right, within-lt}
 use Rattle.netlist.specs.Kinds.{usesOf, operandsOf}
 use Rattle.netlist.specs.Layout.{Design, designOf, recordAt, codeAt, widthAt, fieldsAt, keepAt, countOf, byteAt, recordStart}
 use Rattle.netlist.specs.Rules.{AllHold}
-use Rattle.fit.specs.Fit.{operandLimit, fieldRules, operandRules, widthRulesAt, wordRules}
+use Rattle.rules.specs.Fit.{operandLimit, fieldRules, operandRules, widthRulesAt, wordRules}
 use Rattle.rules.specs.Check.{checkOf, headerRules, recordRules}
 use Rattle.rules.specs.Sound.{Sound, SoundRecord, SameDesign}
 use Rattle.rules.specs.declared.Checked.the-variants.{Accepted}

@@ -16,10 +16,10 @@ use Rattle.netlist.specs.declared.record.Fields.{Fields}
 use Rattle.netlist.specs.declared.record.Record.{Record}
 use Rattle.netlist.specs.declared.record.Uses.{Uses}
 use Rattle.netlist.proofs.KindLaws.{padded, Padded}
-use Rattle.fit.specs.Fit.{widthRange, fieldRules, widthRulesAt, operandRules, wordRules}
-use Rattle.fit.proofs.OperandLaws.{operand-below}
+use Rattle.rules.specs.Fit.{widthRange, fieldRules, widthRulesAt, operandRules, wordRules}
 use Rattle.rules.specs.Check.{firstBroken, recordRules}
 use Rattle.rules.specs.declared.Verdict.{Verdict}
+use Rattle.rules.proofs.OperandLaws.{operand-below}
 use Rattle.rules.proofs.CheckLaws.{holding, broken, none-broken, limit-le, operand-rules, width-rules, word-rules}
 use Rattle.checker.proofs.check_record.Statement.{statement}
 use Rattle.checker.proofs.check_record.Tie as tie

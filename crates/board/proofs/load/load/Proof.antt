@@ -4,8 +4,7 @@ use mathlib.Core.Path.{sym, _∙_}
 use Prim.Native.Nat.{_-_}
 use native.Mathlib.Omega.{arith}
 use Rattle.endian.proofs.ListLaws.{Filled, filled-none, filled-next, filled-all}
-use Rattle.netlist.specs.Layout.{designOf, countOf}
-use Rattle.fit.specs.Fit.{roleAt}
+use Rattle.netlist.specs.Layout.{designOf, countOf, roleAt}
 use Rattle.clock.specs.Values.{nextWord, nextOf}
 use Rattle.board.proofs.load.load.Statement.{statement}
 use Rattle.board.proofs.load.load.Tie as tie

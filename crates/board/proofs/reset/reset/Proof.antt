@@ -5,8 +5,7 @@ use Prim.Native.Nat.{_-_}
 use native.Mathlib.Omega.{arith}
 use denote.Ref.{now}
 use Rattle.endian.proofs.ListLaws.{Filled, filled-none, filled-next, filled-all}
-use Rattle.netlist.specs.Layout.{designOf, countOf}
-use Rattle.fit.specs.Fit.{roleAt}
+use Rattle.netlist.specs.Layout.{designOf, countOf, roleAt}
 use Rattle.rules.proofs.Acceptance.{holds-record}
 use Rattle.clock.specs.Values.{startWord, startOf}
 use Rattle.board.proofs.reset.reset.Statement.{statement}

@@ -4,9 +4,8 @@ use mathlib.Core.Path.{ap, _∙_}
 use native.Mathlib.Omega.{arith}
 use denote.Ref.{now}
 use Rattle.endian.specs.Lists.{wordAt}
-use Rattle.netlist.specs.Layout.{designOf, recordAt}
+use Rattle.netlist.specs.Layout.{designOf, recordAt, roleAt}
 use Rattle.netlist.specs.declared.record.Uses.{Uses}
-use Rattle.fit.specs.Fit.{roleAt}
 use Rattle.rules.proofs.Acceptance.{holds-record}
 use Rattle.clock.specs.Call.{wordIsWide}
 use Rattle.board.proofs.words.is_wide.Statement.{statement}

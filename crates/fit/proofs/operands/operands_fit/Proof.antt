@@ -5,7 +5,7 @@ use borrow.Author.Tests.{not-true, not-false}
 use borrow.Author.Needs.{needs}
 use denote.Ref.{now}
 use Rattle.netlist.specs.Layout.{designOf}
-use Rattle.fit.proofs.OperandLaws.{none-used, first-fails, one-used, second-fails, two-used, three-used}
+use Rattle.rules.proofs.OperandLaws.{none-used, first-fails, one-used, second-fails, two-used, three-used}
 use Rattle.fit.proofs.operands.operands_fit.Statement.{statement}
 use Rattle.fit.proofs.operands.operands_fit.Tie as tie
 

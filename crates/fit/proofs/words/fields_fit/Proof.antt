@@ -4,7 +4,7 @@ use mathlib.Core.Path.{sym}
 use mathlib.Core.Bool.{and-true}
 use borrow.Author.Tests.{eq-eqb, ne-eqb}
 use Rattle.netlist.proofs.Tests.{goes-on, stops}
-use Rattle.fit.specs.Fit.{fieldRules}
+use Rattle.rules.specs.Fit.{fieldRules}
 use Rattle.fit.proofs.words.fields_fit.Statement.{statement}
 use Rattle.fit.proofs.words.fields_fit.Tie as tie
 

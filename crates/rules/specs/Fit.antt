@@ -4,7 +4,7 @@ use mathlib.Core.List.{List, [], _∷_}
 use Prim.Native.Nat.{ℕ, _^_}
 use Rattle.netlist.specs.Kinds.{usesOf, widthRules, isOutput, operandsOf}
 use Rattle.netlist.specs.Limits.{maxWidth}
-use Rattle.netlist.specs.Layout.{Design}
+use Rattle.netlist.specs.Layout.{Design, roleAt}
 use Rattle.netlist.specs.Rules.{Rule, equal, below, atMost, isNot}
 use Rattle.netlist.specs.declared.record.Fields.{Fields}
 use Rattle.netlist.specs.declared.record.Record.{Record}
@@ -22,9 +22,6 @@ operandLimit Input n i = i
 operandLimit (Register a k) n i = n
 operandLimit Output n i = i
 operandLimit Gate n i = i
-
-abbrev pub roleAt : Design → ℕ → Role
-roleAt d i = usesOf (d .at i .kind) .role
 
 unfoldable pub namesRules : Design → ℕ → List ℕ → List Rule
 namesRules d limit [] = []

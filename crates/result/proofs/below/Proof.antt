@@ -1,8 +1,8 @@
--- `result::table::below` meets its contract: the test is the definition's.
+-- `result::below` meets its contract: the test is the definition's.
 -- Assumes nothing.
 use borrow.Author.Tests.{lt-ltb, le-ltb}
-use Rattle.result.proofs.table.below.Statement.{statement}
-use Rattle.result.proofs.table.below.Tie as tie
+use Rattle.result.proofs.below.Statement.{statement}
+use Rattle.result.proofs.below.Tie as tie
 
 returns : tie.Need-returns
 returns c = let args = c .before .args in rw (lt-ltb (args .x) (args .y) (c .if1 .taken))

@@ -1,12 +1,12 @@
--- `result::table::product` meets its contract: the product modulo 2^64, cut to the width.
+-- `result::product` meets its contract: the product modulo 2^64, cut to the width.
 -- Assumes nothing.
 use mathlib.Core.Path.{ap, _∙_}
 use Prim.Native.Nat.{_*_}
 use borrow.Author.Needs.{needs}
 use Rattle.bits.specs.Words.{cut}
 use Rattle.bits.proofs.Modulo.{cut-cut}
-use Rattle.result.proofs.table.product.Statement.{statement}
-use Rattle.result.proofs.table.product.Tie as tie
+use Rattle.result.proofs.product.Statement.{statement}
+use Rattle.result.proofs.product.Tie as tie
 
 mul-requires : tie.Need-mul-requires
 mul-requires c κs = search needs

@@ -10,11 +10,11 @@ use lib.ListN.{take, getD}
 use lib.Seq.{take-all}
 use borrow.Author.Tests.{ltb-true}
 use Rattle.netlist.specs.Kinds.{operandsOf, isOutput}
-use Rattle.netlist.specs.Layout.{Design}
+use Rattle.netlist.specs.Layout.{Design, roleAt}
 use Rattle.netlist.specs.Rules.{below, isNot, testAll}
 use Rattle.netlist.specs.declared.record.Uses.{Uses}
 use Rattle.netlist.proofs.Tests.{and-first, and-second}
-use Rattle.fit.specs.Fit.{namesRules, roleAt}
+use Rattle.rules.specs.Fit.{namesRules}
 
 -- the operands by their count
 by-count : (u : Uses) (n : ℕ) → u .count ≡ n → operandsOf u ≡ take n (u .a ∷ u .b ∷ u .c ∷ [])

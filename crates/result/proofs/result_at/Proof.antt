@@ -1,4 +1,4 @@
--- `result::table::result_at` meets its contract: the operand fields, used or not, name records of the file and words of the board.
+-- `result::result_at` meets its contract: the operand fields, used or not, name records of the file and words of the board.
 -- Assumes nothing.
 use mathlib.Core.Path.{sym, subst, _∙_}
 use Prim.Native.Nat.{_≤_}
@@ -9,8 +9,8 @@ use Rattle.netlist.specs.declared.record.Record.{Record}
 use Rattle.netlist.specs.Layout.{designOf}
 use Rattle.rules.proofs.Acceptance.{holds-record}
 use Rattle.result.proofs.Reading.{operands-in, result-read}
-use Rattle.result.proofs.table.result_at.Statement.{statement}
-use Rattle.result.proofs.table.result_at.Tie as tie
+use Rattle.result.proofs.result_at.Statement.{statement}
+use Rattle.result.proofs.result_at.Tie as tie
 
 record-at-requires : tie.Need-record-at-requires
 record-at-requires c κs = let args = c .before .before .args in

@@ -1,8 +1,8 @@
--- `result::table::equal` meets its contract: the test is the definition's.
+-- `result::equal` meets its contract: the test is the definition's.
 -- Assumes nothing.
 use borrow.Author.Tests.{eq-eqb, ne-eqb}
-use Rattle.result.proofs.table.equal.Statement.{statement}
-use Rattle.result.proofs.table.equal.Tie as tie
+use Rattle.result.proofs.equal.Statement.{statement}
+use Rattle.result.proofs.equal.Tie as tie
 
 returns : tie.Need-returns
 returns c = let args = c .before .args in rw (eq-eqb (args .x) (args .y) (c .if1 .taken))

@@ -14,10 +14,10 @@ use Rattle.netlist.specs.Layout.{Design}
 use Rattle.netlist.specs.Rules.{AllHold}
 use Rattle.netlist.specs.declared.record.Kind.{Kind}
 use Rattle.netlist.specs.declared.record.Kind.the-variants.{Input, Constant, Register, Output, Extract, Concat, And, Or, Xor, Mux, Add, Sub, Mul, Equal, Below}
-use Rattle.fit.specs.Fit.{widthRulesAt}
+use Rattle.rules.specs.Fit.{widthRulesAt}
 use Rattle.rules.specs.Sound.{Sound}
 use Rattle.rules.proofs.SoundLaws.{operands-below}
-use Rattle.result.specs.Results.{resultOf, resultAt}
+use Rattle.signal.specs.Results.{resultOf, resultAt}
 
 -- "a above b": nothing of a is lost
 pub concat-exact : (wa wb : ℕ) {x y : ℕ} → x < 2 ^ wa → y < 2 ^ wb → cut (wa + wb) (x * 2 ^ wb + y) ≡ x * 2 ^ wb + y

@@ -1,12 +1,12 @@
--- `result::table::concat` meets its contract: a sum at the record's width needs the moved word modulo 2^64 only.
+-- `result::concat` meets its contract: a sum at the record's width needs the moved word modulo 2^64 only.
 -- Assumes nothing.
 use mathlib.Core.Path.{ap, _∙_}
 use Prim.Native.Nat.{ℕ}
 use borrow.Author.Needs.{needs}
 use Rattle.bits.specs.Words.{sumAt}
 use Rattle.bits.proofs.Modulo.{sum-cut}
-use Rattle.result.proofs.table.concat.Statement.{statement}
-use Rattle.result.proofs.table.concat.Tie as tie
+use Rattle.result.proofs.concat.Statement.{statement}
+use Rattle.result.proofs.concat.Tie as tie
 
 shl-requires : tie.Need-shl-requires
 shl-requires c κs = search needs

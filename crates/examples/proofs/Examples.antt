@@ -7,16 +7,16 @@ use Rattle.endian.specs.Lists.{wordsFrom, wordsOf, sumTo}
 use Rattle.bits.specs.Words.{lengthIn}
 use Rattle.netlist.specs.Kinds.{kindOf, operandsOf}
 use Rattle.netlist.specs.Layout.{codeAt, widthAt, fieldsAt, keepAt, recordAt, designOf}
-use Rattle.fit.specs.Fit.{namesRules, operandRules, widthRulesAt, fieldRules, wordRules}
+use Rattle.rules.specs.Fit.{namesRules, operandRules, widthRulesAt, fieldRules, wordRules}
 use Rattle.rules.specs.Check.{headerRules, recordRules, firstBroken, refuseAt, checkFrom, checkOf}
-use Rattle.result.specs.Results.{resultAt}
+use Rattle.signal.specs.Results.{resultAt}
 use Rattle.signal.specs.Asks.{asked}
 use Rattle.care.specs.Call.{callAfter, masksCall}
 use Rattle.care.specs.Least.{grant, roundTo, settle, leastAbove, masksOf}
 use Rattle.clock.specs.Call.{answerAfter, wideFrom, wordsAnswer, startCall, cycleWith}
 use Rattle.clock.specs.Values.{valuesTo, valuesOf, nextOf, startOf}
 use Rattle.agreement.specs.Runs.{withInputs, callOn, runFrom, cyclesOf}
-use Rattle.agreement.specs.Examples.{table, definedOf, saidOf, swappedRun}
+use Rattle.examples.specs.Examples.{table, definedOf, saidOf, swappedRun}
 
 pub examples : definedOf table ≡ saidOf table
 unfolding table definedOf saidOf onesIn lengthIn wordsFrom wordsOf sumTo kindOf operandsOf codeAt widthAt fieldsAt keepAt recordAt designOf

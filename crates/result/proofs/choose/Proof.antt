@@ -1,8 +1,8 @@
--- `result::table::choose` meets its contract: the test for 1 is the definition's.
+-- `result::choose` meets its contract: the test for 1 is the definition's.
 -- Assumes nothing.
 use borrow.Author.Tests.{eq-eqb, ne-eqb}
-use Rattle.result.proofs.table.choose.Statement.{statement}
-use Rattle.result.proofs.table.choose.Tie as tie
+use Rattle.result.proofs.choose.Statement.{statement}
+use Rattle.result.proofs.choose.Tie as tie
 
 returns : tie.Need-returns
 returns c = let args = c .before .args in rw (eq-eqb (args .x) 1 (c .if1 .taken))

@@ -1,0 +1,3 @@
+-- That the examples hold.
+-- Assumes nothing.
+pub mod Examples

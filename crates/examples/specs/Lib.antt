@@ -1,0 +1,3 @@
+-- The table of examples.
+-- Assumes nothing.
+pub mod Examples

@@ -1,3 +1,0 @@
--- The rules within a record.
--- Assumes nothing.
-pub mod Fit

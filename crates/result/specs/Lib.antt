@@ -1,3 +1,0 @@
--- The results of records.
--- Assumes nothing.
-pub mod Results
