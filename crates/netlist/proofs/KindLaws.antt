@@ -1,17 +1,17 @@
--- Laws of the table of kinds: numbers and kinds answer to each other, 3 alone is an output's number, and unused fields are 0.
--- Assumes nothing.
+-- Laws of the table of kinds: numbers and kinds answer to each other, 3 alone is an output's number, unused fields are 0, and k
+-- is a word. Assumes nothing.
 use mathlib.Core.Path.{_≡_, refl, sym, _∙_}
 use mathlib.Core.Bool.{Bool, false}
-use Prim.Native.Nat.{ℕ, zero, suc, _≤_, _<_}
+use Prim.Native.Nat.{ℕ, zero, suc, _^_, _≤_, _<_}
 use native.Mathlib.Omega.{arith}
 use borrow.Author.Tests.{ne-eqb}
 use lib.Dec.{eqb, lit<}
 use lib.ListN.{getD, drop, replicate, List·getD-eq-default, List·getD-map}
 use Rattle.endian.specs.Lists.{wordsOf, wordsFrom}
 use Rattle.endian.proofs.ListLaws.{word-at}
-use Rattle.netlist.specs.Kinds.{isOutput, operandsOf}
+use Rattle.netlist.specs.Kinds.{kinds, kindOf, codeOf, usesOf, widthRules, isOutput, operandsOf}
 use Rattle.netlist.specs.Limits.{kindCount}
-use Rattle.netlist.specs.Kinds.{kinds, kindOf, codeOf, usesOf}
+use Rattle.netlist.specs.Rules.{AllHold}
 use Rattle.netlist.specs.declared.record.Fields.{Fields}
 use Rattle.netlist.specs.declared.record.Kind.{Kind}
 use Rattle.netlist.specs.declared.record.Kind.the-variants.{Input, Constant, Register, Output, Extract, Concat, And, Or, Xor, Mux, Add, Sub, Mul, Equal, Below}
@@ -125,3 +125,21 @@ is-register (Sub b c) a k e = absurd (let z : _≡_ {A = ℕ} 0 1 = cc in omega 
 is-register (Mul b c) a k e = absurd (let z : _≡_ {A = ℕ} 0 1 = cc in omega arith)
 is-register (Equal b c) a k e = absurd (let z : _≡_ {A = ℕ} 0 1 = cc in omega arith)
 is-register (Below b c) a k e = absurd (let z : _≡_ {A = ℕ} 0 1 = cc in omega arith)
+
+-- k is a word of 64 bits: it fits its record's width, or it is a place within its operand
+pub k-word : (kind : Kind) (w wa wb wc : ℕ) → AllHold (widthRules kind w wa wb wc) → usesOf kind .word < 2 ^ 64 → wa ≤ 64 → usesOf kind .k < 2 ^ 64
+k-word Input w wa wb wc h g l = lit< tt
+k-word (Constant k) w wa wb wc h g l = g
+k-word (Register a k) w wa wb wc h g l = g
+k-word (Output a) w wa wb wc h g l = lit< tt
+k-word (Extract a k) w wa wb wc h g l = omega arith
+k-word (Concat a b) w wa wb wc h g l = lit< tt
+k-word (And a b) w wa wb wc h g l = lit< tt
+k-word (Or a b) w wa wb wc h g l = lit< tt
+k-word (Xor a b) w wa wb wc h g l = lit< tt
+k-word (Mux a b c) w wa wb wc h g l = lit< tt
+k-word (Add a b) w wa wb wc h g l = lit< tt
+k-word (Sub a b) w wa wb wc h g l = lit< tt
+k-word (Mul a b) w wa wb wc h g l = lit< tt
+k-word (Equal a b) w wa wb wc h g l = lit< tt
+k-word (Below a b) w wa wb wc h g l = lit< tt

@@ -6,19 +6,17 @@ use mathlib.Core.Bool.{false}
 use Prim.Native.Nat.{ℕ, _^_, _≤_, _<_}
 use native.Mathlib.Nat.{lt-of-lt-of-le}
 use native.Mathlib.Omega.{arith}
-use lib.Dec.{lit<}
 use lib.Pow.{pow-mono}
 use Rattle.netlist.specs.Limits.{maxWidth}
 use Rattle.netlist.specs.Kinds.{operandsOf, isOutput, usesOf, widthRules}
 use Rattle.netlist.specs.Layout.{Design, roleAt}
 use Rattle.netlist.specs.Rules.{AllHold}
 use Rattle.netlist.specs.declared.record.Kind.{Kind}
-use Rattle.netlist.specs.declared.record.Kind.the-variants.{Input, Constant, Register, Output, Extract, Concat, And, Or, Xor, Mux, Add, Sub, Mul, Equal, Below}
 use Rattle.netlist.specs.declared.record.Record.{Record}
 use Rattle.netlist.specs.declared.record.Role.{Role}
 use Rattle.netlist.specs.declared.record.Role.the-variants.{Register as register}
 use Rattle.netlist.specs.declared.record.Uses.{Uses}
-use Rattle.netlist.proofs.KindLaws.{padded, is-register}
+use Rattle.netlist.proofs.KindLaws.{padded, is-register, k-word}
 use Rattle.netlist.proofs.Tests.{hold-tests}
 use Rattle.rules.specs.Fit.{operandLimit, namesRules, operandRules, widthRulesAt}
 use Rattle.rules.specs.Sound.{Sound, SoundRecord, SameDesign}
@@ -30,24 +28,6 @@ pub record OperandsBelow (u : Uses) (n : ℕ) : Type 0 where
   pub a : u .a < n
   pub b : u .b < n
   pub c : u .c < n
-
--- k is a word of 64 bits: it fits its record's width, or it is a place within its operand
-k-word : (kind : Kind) (w wa wb wc : ℕ) → AllHold (widthRules kind w wa wb wc) → usesOf kind .word < 2 ^ 64 → wa ≤ 64 → usesOf kind .k < 2 ^ 64
-k-word Input w wa wb wc h g l = lit< tt
-k-word (Constant k) w wa wb wc h g l = g
-k-word (Register a k) w wa wb wc h g l = g
-k-word (Output a) w wa wb wc h g l = lit< tt
-k-word (Extract a k) w wa wb wc h g l = omega arith
-k-word (Concat a b) w wa wb wc h g l = lit< tt
-k-word (And a b) w wa wb wc h g l = lit< tt
-k-word (Or a b) w wa wb wc h g l = lit< tt
-k-word (Xor a b) w wa wb wc h g l = lit< tt
-k-word (Mux a b c) w wa wb wc h g l = lit< tt
-k-word (Add a b) w wa wb wc h g l = lit< tt
-k-word (Sub a b) w wa wb wc h g l = lit< tt
-k-word (Mul a b) w wa wb wc h g l = lit< tt
-k-word (Equal a b) w wa wb wc h g l = lit< tt
-k-word (Below a b) w wa wb wc h g l = lit< tt
 
 module _ (d : Design) (s : Sound d) (i : ℕ) (h : i < d .count) where
   pub limit-count : operandLimit (usesOf (d .at i .kind) .role) (d .count) i ≤ d .count
