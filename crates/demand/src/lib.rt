@@ -32,14 +32,17 @@ pub struct Asks {
     pub third: Ask,
 }
 
+fn ask(operand: usize, mask: u64) -> Ask
+    ensures { λ r. ⌜ r ≡ ask operand mask ⌝ }
+{
+    Ask { operand, mask }
+}
+
 impl Asks {
     fn none() -> Asks
         ensures { λ r. ⌜ listed r ≡ [] ⌝ }
     {
-        let unused = Ask {
-            operand: 0,
-            mask: 0,
-        };
+        let unused = ask(0, 0);
         Asks {
             count: 0,
             first: unused,
@@ -51,16 +54,10 @@ impl Asks {
     fn one(a: usize, x: u64) -> Asks
         ensures { λ r. ⌜ listed r ≡ ask a x ∷ [] ⌝ }
     {
-        let unused = Ask {
-            operand: 0,
-            mask: 0,
-        };
+        let unused = ask(0, 0);
         Asks {
             count: 1,
-            first: Ask {
-                operand: a,
-                mask: x,
-            },
+            first: ask(a, x),
             second: unused,
             third: unused,
         }
@@ -71,18 +68,9 @@ impl Asks {
     {
         Asks {
             count: 2,
-            first: Ask {
-                operand: a,
-                mask: x,
-            },
-            second: Ask {
-                operand: b,
-                mask: y,
-            },
-            third: Ask {
-                operand: 0,
-                mask: 0,
-            },
+            first: ask(a, x),
+            second: ask(b, y),
+            third: ask(0, 0),
         }
     }
 
@@ -91,18 +79,9 @@ impl Asks {
     {
         Asks {
             count: 3,
-            first: Ask {
-                operand: a,
-                mask: x,
-            },
-            second: Ask {
-                operand: b,
-                mask: y,
-            },
-            third: Ask {
-                operand: c,
-                mask: z,
-            },
+            first: ask(a, x),
+            second: ask(b, y),
+            third: ask(c, z),
         }
     }
 }
