@@ -9,7 +9,7 @@ use Rattle.bits.specs.Masks.{Within}
 use Rattle.bits.specs.Words.{lowMask, cut, up, down, lengthIn, bitLength}
 use Rattle.bits.proofs.Counts.{lengthIn-holds, lengthIn-least}
 use Rattle.bits.proofs.Digits.{bit-down}
-use Rattle.bits.proofs.Order.{within-bit, within-by-bits, within-lt, meet-left, meet-mono, within-low, low-mono}
+use Rattle.bits.proofs.Order.{within-bit, within-by-bits, within-lt, meet-left, meet-mono, within-low}
 
 -- ---- cut to a width
 

@@ -8,7 +8,6 @@ use native.Mathlib.Omega.{arith}
 use lib.Bits.{bitOr, or-zero-r}
 use lib.ListN.{set}
 use lib.Seq.{set-getD}
-use Rattle.signal.specs.Asks.{asked}
 use Rattle.signal.specs.AskLists.{Named, NoBit}
 use Rattle.signal.specs.declared.Ask.{Ask}
 use Rattle.demand.specs.Held.{listed, Serves}

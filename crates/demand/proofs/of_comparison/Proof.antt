@@ -1,6 +1,8 @@
 -- `demand::of_comparison` meets its contract: each operand is asked by its own width.
 -- Assumes nothing.
+use mathlib.Core.Path.{_≡_}
 use borrow.Author.Needs.{needs}
+use Rattle.signal.specs.Asks.{allIfAny}
 use Rattle.demand.proofs.of_comparison.Statement.{statement}
 use Rattle.demand.proofs.of_comparison.Tie as tie
 
@@ -14,7 +16,10 @@ two-requires : tie.Need-two-requires
 two-requires c κs = search needs
 
 returns : tie.Need-returns
-returns c = rw (← c .before .before .all-if-any .ensures, ← c .before .all-if-any2 .ensures) (c .two .ensures)
+returns c = let args = c .before .before .before .args in
+    let first : c .before .before .all-if-any .result ≡ allIfAny (args .v) (args .d) = c .before .before .all-if-any .ensures in
+    let second : c .before .all-if-any2 .result ≡ allIfAny (args .w) (args .d) = c .before .all-if-any2 .ensures in
+    rw (← first, ← second) (c .two .ensures)
 
 pub of-comparison-spec : {M : Type 1} → statement M
 of-comparison-spec =

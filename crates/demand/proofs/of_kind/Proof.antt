@@ -1,8 +1,9 @@
 -- `demand::of_kind` meets its contract: each kind has its line in the definition.
 -- Assumes nothing.
-use mathlib.Core.Path.{sym, subst}
+use mathlib.Core.Path.{_≡_, sym, subst}
 use Prim.Native.Nat.{ℕ, _≤_}
 use denote.Ref.{now}
+use Rattle.bits.specs.Words.{up}
 use Rattle.netlist.specs.declared.record.Kind.{Kind}
 use Rattle.netlist.specs.Layout.{designOf, recordAt}
 use Rattle.demand.specs.Held.{Readable}
@@ -145,7 +146,10 @@ returns-4 : tie.Need-returns-4
 returns-4 c = rw (c .before .before .kind2 .given .1) (c .one2 .ensures)
 
 returns-5 : tie.Need-returns-5
-returns-5 c = rw (c .before .before .before .kind3 .given .1, ← c .before .shl .ensures) (c .one3 .ensures)
+returns-5 c = let kind = c .before .before .before .kind3 in
+    let args = c .before .before .before .before .before .before .before .args in
+    let moved : c .before .shl .result ≡ up (kind .given .0 .1 .0) (args .d) = c .before .shl .ensures in
+    rw (kind .given .1, ← moved) (c .one3 .ensures)
 
 returns-6 : tie.Need-returns-6
 unfolding designOf recordAt
