@@ -1,11 +1,18 @@
 # The commands of the repository. Each stands on the Rattle kit (rt) and gcc.
-# `make sample` shows the program on a sample file; `make test` is the gate; `make bench` compares speed with plain C.
+# `make sample` shows the program on a sample file; `make test` is the gate; `make bench` compares speed with plain C; `make install` copies to PREFIX.
 
 LIBRARY = target/staticlib/libdesktop.a
 PORT = target/staticlib/libtestport.a
 PROGRAM = target/bin/masks
 
-.PHONY: program sample library port test bench
+# Where `make install` puts the program, the library and the header. DESTDIR goes before it, for packages that are put together elsewhere.
+PREFIX ?= /usr/local
+INSTALLED = $(DESTDIR)$(PREFIX)
+
+.PHONY: program sample library port test bench install uninstall
+
+# Two runs of rt at the same time would write the same files.
+.NOTPARALLEL:
 
 program:
 	@rt check masks
@@ -25,3 +32,14 @@ test:
 
 bench: library port
 	@tests/bench/run $(LIBRARY) $(PORT)
+
+# Installed, the library has its header's name, so that a C program links with -lpcn.
+install: program library
+	install -d "$(INSTALLED)/bin" "$(INSTALLED)/lib" "$(INSTALLED)/include"
+	install -m 755 "$(PROGRAM)" "$(INSTALLED)/bin/masks"
+	install -m 644 "$(LIBRARY)" "$(INSTALLED)/lib/libpcn.a"
+	install -m 644 include/pcn.h "$(INSTALLED)/include/pcn.h"
+
+# The folders stay: they may have been there before.
+uninstall:
+	rm -f "$(INSTALLED)/bin/masks" "$(INSTALLED)/lib/libpcn.a" "$(INSTALLED)/include/pcn.h"

@@ -4,12 +4,11 @@ Assumes that BUILD holds the model's program and the maker of sample files."""
 import pathlib
 import subprocess
 import sys
-import tempfile
-import time
 
-MOST_RECORDS = 2048
-LONGEST = 8 + 24 * MOST_RECORDS
-SECONDS = 10
+import program_streams
+import program_writes
+from program_runs import (LONGEST, MOST_RECORDS, Tests, emptied, endless,
+                          header, piped, refused, slowly, wires, wires_text)
 
 # What paper 01 says of its examples, line by line.
 PAPER = {
@@ -51,88 +50,6 @@ PAPER = {
 3 8 0000000000000000
 """,
 }
-
-
-class Tests:
-    """Counts named tests and prints how each of them ended."""
-
-    def __init__(self, program, build, examples):
-        self.program = program
-        self.build = build
-        self.examples = examples
-        self.passed = 0
-        self.failed = 0
-        self.faults = []
-
-    def fault(self, text):
-        self.faults.append(text)
-
-    def end(self, name):
-        if self.faults:
-            self.failed += 1
-            print(f"FAIL  {name} ({len(self.faults)} times)")
-            for text in self.faults[:3]:
-                print(f"      {text}")
-        else:
-            self.passed += 1
-            print(f"ok    {name}", flush=True)
-        self.faults = []
-
-    def run(self, what, right, **source):
-        """The program must print `right` and nothing else, with status 0."""
-        try:
-            done = subprocess.run([self.program], capture_output=True,
-                                  timeout=SECONDS, **source)
-        except subprocess.TimeoutExpired:
-            self.fault(f"{what}: no answer")
-            return
-        self.judge(what, done.returncode, done.stdout, done.stderr, right)
-
-    def judge(self, what, status, output, errors, right):
-        right = right.encode()
-        if output != right:
-            self.fault(f"{what}: printed {output[:60]!r}, not {right[:60]!r}")
-        if errors:
-            self.fault(f"{what}: wrote {errors[:60]!r} to standard error")
-        if status != 0:
-            self.fault(f"{what}: ended with status {status}")
-
-    def expect(self, what, data, right):
-        self.run(what, right, input=data)
-
-    def model(self, data):
-        """What the model's program prints for these bytes."""
-        return subprocess.run([self.build / "model_masks"], input=data,
-                              capture_output=True, check=True).stdout.decode()
-
-
-def refused(number, record=0):
-    return f"refused {number} record {record}\n"
-
-
-def header(count):
-    return b"PCN\x01\x00\x00" + count.to_bytes(2, "little")
-
-
-def wires(count):
-    """A file of wires of one bit: an input, its output, and so on. All masks
-    are 1 where the count is even."""
-    keep = b"\x01" + bytes(7)
-    records = [bytes([3, 1]) + (i - 1).to_bytes(2, "little") + bytes(12)
-               if i % 2 else bytes([0, 1]) + bytes(14) for i in range(count)]
-    return header(count) + b"".join(record + keep for record in records)
-
-
-def wires_text(count):
-    lines = [f"{i} 1 {1:016x}" for i in range(count)]
-    return "\n".join([f"{count} {count} {count}", *lines, ""])
-
-
-def emptied(folder):
-    folder.mkdir(exist_ok=True)
-    for old in folder.iterdir():
-        old.unlink()
-    return folder
 
 
 def example_outputs(tests):
@@ -190,6 +107,10 @@ def lengths(tests):
     tests.expect("2,049", wires(MOST_RECORDS + 1), refused(4))
     tests.end("49,161 bytes and more")
 
+    for more in range(1, 49):
+        tests.expect(f"{more} more", ramp + bytes(more), refused(5))
+    tests.end("the ramp with 1 to 48 bytes behind it")
+
 
 def long_file(tests):
     """The program shares the file's place with us, so we see how far it
@@ -210,54 +131,6 @@ def long_file(tests):
     tests.end("zeros without an end")
 
 
-def feed(process, pieces):
-    """Writes the pieces to a pipe, as long as somebody reads them. False when
-    that takes too long."""
-    stop = time.monotonic() + SECONDS
-    try:
-        for piece in pieces:
-            process.stdin.write(piece)
-            if time.monotonic() > stop:
-                return False
-    except BrokenPipeError:
-        pass
-    return True
-
-
-def piped(tests, what, pieces, right, close=True):
-    """Without `close`, the answer must come while the pipe is still open."""
-    with tempfile.TemporaryFile() as output, \
-            tempfile.TemporaryFile() as errors, \
-            subprocess.Popen([tests.program], stdin=subprocess.PIPE,
-                             stdout=output, stderr=errors,
-                             bufsize=0) as process:
-        if not feed(process, pieces):
-            process.kill()
-        if close:
-            process.stdin.close()
-        try:
-            process.wait(timeout=SECONDS)
-        except subprocess.TimeoutExpired:
-            process.kill()
-            process.wait()
-        output.seek(0)
-        errors.seek(0)
-        tests.judge(what, process.returncode, output.read(), errors.read(),
-                    right)
-
-
-def slowly(data, size, pause):
-    for place in range(0, len(data), size):
-        yield data[place:place + size]
-        time.sleep(pause)
-
-
-def endless(first, then):
-    yield first
-    while True:
-        yield then
-
-
 def pipes(tests):
     ramp = (tests.examples / "ramp.pcn").read_bytes()
     piped(tests, "ramp", slowly(ramp, 1, 0.001), PAPER["ramp"])
@@ -273,6 +146,8 @@ def pipes(tests):
     piped(tests, "49,161", slowly(full + b"\0", 4097, 0.0005), refused(5),
           close=False)
     piped(tests, "49,160 and 1", iter([full, b"\0"]), refused(5), close=False)
+    piped(tests, "65,000", iter([full, bytes(65_000 - LONGEST)]), refused(5),
+          close=False)
     tests.end("one byte too many is answered while the pipe is open")
 
     piped(tests, "zeros", endless(header(1), bytes(4096)), refused(5))
@@ -307,8 +182,9 @@ def main():
     long_file(tests)
     pipes(tests)
     samples(tests)
-    print(f"{tests.passed} passed, {tests.failed} failed")
-    return 0 if tests.failed == 0 and tests.passed > 0 else 1
+    program_streams.all_tests(tests)
+    program_writes.holes(tests)
+    return tests.finish()
 
 
 if __name__ == "__main__":

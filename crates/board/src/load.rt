@@ -1,6 +1,6 @@
 // The words of a next list after a cycle.
 // A caller has an accepted file and lists of n words.
-use netlist::layout::uses_at;
+use netlist::layout::role_at;
 use netlist::record::Role;
 ghost use mathlib.Core.Path.{_≡_};
 ghost use Prim.Native.Nat.{_<_};
@@ -14,8 +14,7 @@ fn next_word(file: &[u8], values: &[u64], i: usize) -> u64
     requires { ⌜ Acceptance (now file) (countOf (now file)) × (i < countOf (now file)) × (length (now values) ≡ countOf (now file)) ⌝ }
     ensures { λ r. ⌜ r ≡ nextWord (now (values .entry)) (roleAt (designOf (now (file .entry))) i) ⌝ }
 {
-    let uses = uses_at(file, i);
-    let role = uses.role;
+    let role = role_at(file, i);
     match role {
         Role::Input => 0,
         Role::Register { a, k: _ } => values[a],

@@ -1,6 +1,6 @@
 // The words of a board list after a start.
 // A caller has an accepted file and a list of n words.
-use netlist::layout::uses_at;
+use netlist::layout::role_at;
 use netlist::record::Role;
 ghost use mathlib.Core.Path.{_≡_};
 ghost use Prim.Native.Nat.{_+_, _≤_};
@@ -14,8 +14,7 @@ fn start_word(file: &[u8], i: usize) -> u64
     requires { ⌜ recordStart i + recordSize ≤ length (now file) ⌝ }
     ensures { λ r. ⌜ r ≡ startWord (roleAt (designOf (now (file .entry))) i) ⌝ }
 {
-    let uses = uses_at(file, i);
-    let role = uses.role;
+    let role = role_at(file, i);
     match role {
         Role::Input => 0,
         Role::Register { a: _, k } => k,

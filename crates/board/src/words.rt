@@ -1,7 +1,7 @@
 // The words that a cycle starts from: whether one has a bit at its width or above.
 // A caller of `is_wide` has an accepted file, a record of it, and a board list of n words.
 use bits::arith::shr;
-use netlist::layout::uses_at;
+use netlist::layout::role_at;
 use netlist::layout::width_at;
 use netlist::record::Role;
 ghost use mathlib.Core.Path.{_≡_};
@@ -28,7 +28,5 @@ pub fn is_wide(file: &[u8], board: &[u64], i: usize) -> bool
     requires { ⌜ Acceptance (now file) (countOf (now file)) × (i < countOf (now file)) × (length (now board) ≡ countOf (now file)) ⌝ }
     ensures { λ r. ⌜ r ≡ isWide (designOf (now (file .entry))) (now (board .entry)) i ⌝ }
 {
-    let uses = uses_at(file, i);
-    let role = uses.role;
-    word_is_wide(role, board[i], width_at(file, i))
+    word_is_wide(role_at(file, i), board[i], width_at(file, i))
 }

@@ -5,6 +5,7 @@ use fit::widths::*;
 use fit::words::*;
 use netlist::layout::*;
 use netlist::record::Record;
+use netlist::record::Uses;
 use netlist::refusal::Refusal;
 use rules::Checked;
 use rules::Verdict;
@@ -28,22 +29,23 @@ fn check_record(file: &[u8], n: usize, i: usize) -> Verdict
     requires { ⌜ (n ≡ countOf (now file)) × (recordStart n ≤ length (now file)) × (i < n) ⌝ }
     ensures { λ r. ⌜ r ≡ firstBroken (recordRules (now (file .entry)) i) ⌝ }
 {
-    if Record::KINDS <= code_at(file, i) {
+    let code = code_at(file, i);
+    if Record::KINDS <= code {
         return Verdict::Fail(Refusal::BadKind);
     }
-    let record = record_at(file, i);
-    let kind = record.kind;
-    let uses = kind.uses();
-    let w = record.width;
+    let w = width_at(file, i);
     if !width_in_range(w) {
         return Verdict::Fail(Refusal::BadWidth);
     }
+    let fields = fields_at(file, i);
+    let uses = Uses::new(code, fields);
     let role = uses.role;
     if !operands_fit(file, operand_limit(role, n, i), uses) {
         return Verdict::Fail(Refusal::BadOperand);
     }
     if !widths_fit(
-        kind,
+        code,
+        fields,
         w,
         width_at(file, uses.a),
         width_at(file, uses.b),
@@ -51,10 +53,10 @@ fn check_record(file: &[u8], n: usize, i: usize) -> Verdict
     ) {
         return Verdict::Fail(Refusal::BadWidthRule);
     }
-    if !fields_fit(fields_at(file, i), uses) {
+    if !fields_fit(fields, uses) {
         return Verdict::Fail(Refusal::UnusedBit);
     }
-    if !words_fit(record.keep, uses.word, w) {
+    if !words_fit(keep_at(file, i), uses.word, w) {
         return Verdict::Fail(Refusal::UnusedBit);
     }
     Verdict::Pass

@@ -4,6 +4,7 @@ use answer::refused;
 use answer::tallied;
 use care::Tally;
 use checker::check;
+use endian::SHORT_LIST;
 use endian::write_words;
 use masker::fill;
 use netlist::record::Record;
@@ -38,6 +39,10 @@ fn fill_buffer(file: &[u8], buffer: &mut [u8], n: usize) -> Tally
     ensures tally { λ r. ⌜ r ≡ tallyOf (designOf (now (file .entry))) (masksOf (designOf (now (file .entry)))) ⌝ }
     ensures buffer { λ r. ⌜ now (buffer .exit) ≡ wordBytes (masksOf (designOf (now (file .entry)))) ⌝ }
 {
+    if n <= SHORT_LIST {
+        let mut short: [u64; SHORT_LIST] = [0; SHORT_LIST];
+        return fill_both(file, &mut short[..n], buffer);
+    }
     let mut words: [u64; Record::MAX_COUNT] = [0; Record::MAX_COUNT];
     fill_both(file, &mut words[..n], buffer)
 }

@@ -1,10 +1,13 @@
-// Little-endian numbers in a slice of bytes.
+// Little-endian numbers in a slice of bytes, one by one and as lists of words.
 // A caller has the bytes that are read or written in the slice.
 ghost use mathlib.Core.Path.{_≡_};
 ghost use mathlib.Core.List.{_++_};
 ghost use Prim.Native.Nat.{_+_, _*_, _≤_, _<_, _^_};
 ghost use lib.ListN.{length, drop};
 ghost use Rattle.endian.specs.Bytes.{numberAt, bytes, wordsIn, wordBytes};
+
+// Lists of so few words are worked on in an array of this length, which takes less time to clear than one for the longest list.
+pub const SHORT_LIST: usize = 256;
 
 // A byte as a word.
 fn wide(x: u8) -> u64

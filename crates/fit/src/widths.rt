@@ -1,11 +1,12 @@
 // The tests of a record's width, and of the width rule of its kind.
-// Nothing is asked of a caller.
-use netlist::record::Kind;
+// A caller of `widths_fit` has the number of a kind; the others ask nothing.
+use netlist::record::Fields;
 use netlist::record::Record;
 ghost use mathlib.Core.Path.{_≡_};
 ghost use mathlib.Core.List.{[], _∷_};
-ghost use Prim.Native.Nat.{_+_};
-ghost use Rattle.netlist.specs.Kinds.{widthRules};
+ghost use Prim.Native.Nat.{_+_, _<_};
+ghost use Rattle.netlist.specs.Kinds.{kindOf, widthRules};
+ghost use Rattle.netlist.specs.Limits.{kindCount};
 ghost use Rattle.netlist.specs.Rules.{equal, atMost, testAll};
 ghost use Rattle.rules.specs.Fit.{widthRange};
 
@@ -47,25 +48,29 @@ pub fn width_in_range(w: u64) -> bool
     1 <= w && w <= Record::MAX_WIDTH
 }
 
-// The width rule of a kind, for a record of width w whose operands have the widths wa, wb and wc.
-pub fn widths_fit(kind: Kind, w: u64, wa: u64, wb: u64, wc: u64) -> bool
-    ensures { λ r. ⌜ r ≡ testAll (widthRules kind w wa wb wc) ⌝ }
+// The width rule of the kind with a number, for a record of width w whose operands have the widths wa, wb and wc. Tests of ranges are
+// foreseen better than a jump by the number.
+pub fn widths_fit(code: u64, fields: Fields, w: u64, wa: u64, wb: u64, wc: u64) -> bool
+    requires { ⌜ code < kindCount ⌝ }
+    ensures { λ r. ⌜ r ≡ testAll (widthRules (kindOf code fields) w wa wb wc) ⌝ }
 {
-    match kind {
-        Kind::Input => true,
-        Kind::Constant { .. } => true,
-        Kind::Register { .. } => one_equal(wa, w),
-        Kind::Output { .. } => one_equal(wa, w),
-        Kind::Extract { k, .. } => sum_at_most(k, w, wa),
-        Kind::Concat { .. } => sum_equal(wa, wb, w),
-        Kind::And { .. } => both_equal(wa, w, wb, w),
-        Kind::Or { .. } => both_equal(wa, w, wb, w),
-        Kind::Xor { .. } => both_equal(wa, w, wb, w),
-        Kind::Mux { .. } => three_equal(wa, 1, wb, w, wc, w),
-        Kind::Add { .. } => both_equal(wa, w, wb, w),
-        Kind::Sub { .. } => both_equal(wa, w, wb, w),
-        Kind::Mul { .. } => both_equal(wa, w, wb, w),
-        Kind::Equal { .. } => both_equal(wa, wb, w, 1),
-        Kind::Below { .. } => both_equal(wa, wb, w, 1),
+    if code < 2 {
+        return true;
     }
+    if code < 4 {
+        return one_equal(wa, w);
+    }
+    if code == 4 {
+        return sum_at_most(fields.k, w, wa);
+    }
+    if code == 5 {
+        return sum_equal(wa, wb, w);
+    }
+    if code == 9 {
+        return three_equal(wa, 1, wb, w, wc, w);
+    }
+    if code < 13 {
+        return both_equal(wa, w, wb, w);
+    }
+    both_equal(wa, wb, w, 1)
 }

@@ -5,7 +5,7 @@ use bits::mask::low_mask;
 use care::Tallied;
 use care::Tally;
 use checker::check;
-use netlist::layout::uses_at;
+use netlist::layout::role_at;
 use netlist::layout::width_at;
 use netlist::record::Role;
 use netlist::refusal::Refusal;
@@ -40,9 +40,7 @@ fn seed_at(file: &[u8], i: usize) -> u64
     requires { ⌜ Acceptance (now file) (countOf (now file)) × (i < countOf (now file)) ⌝ }
     ensures { λ r. ⌜ r ≡ outputSeed (designOf (now (file .entry))) i ⌝ }
 {
-    let uses = uses_at(file, i);
-    let role = uses.role;
-    seed_of(role, width_at(file, i))
+    seed_of(role_at(file, i), width_at(file, i))
 }
 
 // Fills a list with the seed.

@@ -1,21 +1,22 @@
--- Laws of the table of kinds: numbers and kinds answer to each other, 3 alone is an output's number, unused fields are 0, and k
--- is a word. Assumes nothing.
-use mathlib.Core.Path.{_≡_, refl, sym, _∙_}
-use mathlib.Core.Bool.{Bool, false}
-use Prim.Native.Nat.{ℕ, zero, suc, _^_, _≤_, _<_}
+-- Laws of the table of kinds: numbers and kinds answer to each other, 3 alone is an output's number, which kinds have two operands
+-- and which are gates, unused fields are 0, and k is a word. Assumes nothing.
+use mathlib.Core.Path.{_≡_, refl, sym, ap, _∙_}
+use mathlib.Core.Bool.{Bool, true, false, cond}
+use mathlib.Core.List.{List, [], _∷_}
+use Prim.Native.Nat.{ℕ, zero, suc, _+_, _^_, _≤_, _<_}
 use native.Mathlib.Omega.{arith}
-use borrow.Author.Tests.{ne-eqb}
-use lib.Dec.{eqb, lit<}
+use borrow.Author.Tests.{ne-eqb, ltb-true, ltb-false}
+use lib.Dec.{eqb, ltb, lit<}
 use lib.ListN.{getD, drop, replicate, List·getD-eq-default, List·getD-map}
 use Rattle.endian.specs.Lists.{wordsOf, wordsFrom}
 use Rattle.endian.proofs.ListLaws.{word-at}
-use Rattle.netlist.specs.Kinds.{kinds, kindOf, codeOf, usesOf, widthRules, isOutput, operandsOf}
+use Rattle.netlist.specs.Kinds.{kinds, kindOf, codeOf, usesOf, widthRules, isOutput, operandsOf, two}
 use Rattle.netlist.specs.Limits.{kindCount}
-use Rattle.netlist.specs.Rules.{AllHold}
+use Rattle.netlist.specs.Rules.{Rule, equal, AllHold}
 use Rattle.netlist.specs.declared.record.Fields.{Fields}
 use Rattle.netlist.specs.declared.record.Kind.{Kind}
 use Rattle.netlist.specs.declared.record.Kind.the-variants.{Input, Constant, Register, Output, Extract, Concat, And, Or, Xor, Mux, Add, Sub, Mul, Equal, Below}
-use Rattle.netlist.specs.declared.record.Role.the-variants.{Register as register}
+use Rattle.netlist.specs.declared.record.Role.the-variants.{Input as input, Register as register, Gate as gate}
 use Rattle.netlist.specs.declared.record.Uses.{Uses}
 
 -- no kind has a number above 14
@@ -29,6 +30,12 @@ everywhere zero n b = refl
 everywhere (suc m) zero b = refl
 everywhere (suc m) (suc n) b = everywhere m n b
 
+-- and up to its end, with any default
+within : {A : Type 0} (m n : ℕ) (x y : A) → n < m → getD (replicate m x) n y ≡ x
+within zero n x y h = absurd (omega arith)
+within (suc m) zero x y h = refl
+within (suc m) (suc n) x y h = within m n x y (omega arith)
+
 -- "names an output": the kinds after the output's number are no outputs, and the three before it are none either
 pub output-code : (code : ℕ) (f : Fields) → isOutput (usesOf (kindOf code f) .role) ≡ eqb code 3
 unfolding kindOf
@@ -39,6 +46,77 @@ output-code (suc (suc (suc zero))) f = refl
 output-code (suc (suc (suc (suc n)))) f =
     sym (List·getD-map (λ (k : Kind). isOutput (usesOf k .role)) (drop 4 (kinds f)) n Input)
     ∙ everywhere 11 n false ∙ sym (ne-eqb (suc (suc (suc (suc n)))) 3 (λ e. omega arith))
+
+-- an input, a register and an output alone have roles of their own
+gate-role : (code : ℕ) (f : Fields) → code < 15 → (code ≡ 0 → ⊥) → (code ≡ 2 → ⊥) → (code ≡ 3 → ⊥) → usesOf (kindOf code f) .role ≡ gate
+unfolding kindOf
+gate-role zero f h p q r = absurd (p refl)
+gate-role (suc zero) f h p q r = refl
+gate-role (suc (suc zero)) f h p q r = absurd (q refl)
+gate-role (suc (suc (suc zero))) f h p q r = absurd (r refl)
+gate-role (suc (suc (suc (suc n)))) f h p q r =
+    sym (List·getD-map (λ (k : Kind). usesOf k .role) (drop 4 (kinds f)) n Input) ∙ within 11 n gate input (omega arith)
+
+pub other-role : (code : ℕ) (f : Fields) → (code ≡ 0 → ⊥) → (code ≡ 2 → ⊥) → (code ≡ 3 → ⊥) → usesOf (kindOf code f) .role ≡ cond (ltb code kindCount) gate input
+other-role code f p q r = go (ltb code kindCount) refl
+  where
+    go : (t : Bool) → ltb code kindCount ≡ t → usesOf (kindOf code f) .role ≡ cond t gate input
+    go true e = gate-role code f (ltb-true code kindCount e) p q r
+    go false e = ap (λ (k : Kind). usesOf k .role) (kindOf-beyond code f (ltb-false code kindCount e))
+
+-- the width rules of the kinds below 4, by their numbers
+pub no-width-rule : (code : ℕ) (f : Fields) → code < 2 → (w wa wb wc : ℕ) → widthRules (kindOf code f) w wa wb wc ≡ []
+unfolding kindOf
+no-width-rule zero f h w wa wb wc = refl
+no-width-rule (suc zero) f h w wa wb wc = refl
+no-width-rule (suc (suc n)) f h w wa wb wc = absurd (omega arith)
+
+pub one-width-rule : (code : ℕ) (f : Fields) → 2 ≤ code → code < 4 → (w wa wb wc : ℕ) → widthRules (kindOf code f) w wa wb wc ≡ equal wa w ∷ []
+unfolding kindOf
+one-width-rule zero f l h w wa wb wc = absurd (omega arith)
+one-width-rule (suc zero) f l h w wa wb wc = absurd (omega arith)
+one-width-rule (suc (suc zero)) f l h w wa wb wc = refl
+one-width-rule (suc (suc (suc zero))) f l h w wa wb wc = refl
+one-width-rule (suc (suc (suc (suc n)))) f l h w wa wb wc = absurd (omega arith)
+
+-- the kinds from 5 on, but for the mux, use two operands; their width rules, by their numbers
+abbrev pub twoRules : ℕ → ℕ → ℕ → ℕ → List Rule
+twoRules code w wa wb =
+    cond (eqb code 5) (equal (wa + wb) w ∷ [])
+    (cond (ltb code 13) (equal wa w ∷ equal wb w ∷ []) (equal wa wb ∷ equal w 1 ∷ []))
+
+pub record TwoOperands (code : ℕ) (f : Fields) : Type 0 where
+  pub uses : usesOf (kindOf code f) ≡ two (f .a) (f .b)
+  pub widths : (w wa wb wc : ℕ) → widthRules (kindOf code f) w wa wb wc ≡ twoRules code w wa wb
+
+abbrev five-on : ℕ → ℕ
+five-on n = suc (suc (suc (suc (suc n))))
+
+from-10 : (n : ℕ) (f : Fields) → five-on (five-on n) < 15 → TwoOperands (five-on (five-on n)) f
+unfolding kindOf
+from-10 zero f h = record { uses = refl; widths = λ w wa wb wc. refl }
+from-10 (suc zero) f h = record { uses = refl; widths = λ w wa wb wc. refl }
+from-10 (suc (suc zero)) f h = record { uses = refl; widths = λ w wa wb wc. refl }
+from-10 (suc (suc (suc zero))) f h = record { uses = refl; widths = λ w wa wb wc. refl }
+from-10 (suc (suc (suc (suc zero)))) f h = record { uses = refl; widths = λ w wa wb wc. refl }
+from-10 (suc (suc (suc (suc (suc n))))) f h = absurd (omega arith)
+
+from-5 : (n : ℕ) (f : Fields) → five-on n < 15 → (five-on n ≡ 9 → ⊥) → TwoOperands (five-on n) f
+unfolding kindOf
+from-5 zero f h g = record { uses = refl; widths = λ w wa wb wc. refl }
+from-5 (suc zero) f h g = record { uses = refl; widths = λ w wa wb wc. refl }
+from-5 (suc (suc zero)) f h g = record { uses = refl; widths = λ w wa wb wc. refl }
+from-5 (suc (suc (suc zero))) f h g = record { uses = refl; widths = λ w wa wb wc. refl }
+from-5 (suc (suc (suc (suc zero)))) f h g = absurd (g refl)
+from-5 (suc (suc (suc (suc (suc n))))) f h g = from-10 n f h
+
+pub two-operands : (code : ℕ) (f : Fields) → 5 ≤ code → code < 15 → (code ≡ 9 → ⊥) → TwoOperands code f
+two-operands zero f l h g = absurd (omega arith)
+two-operands (suc zero) f l h g = absurd (omega arith)
+two-operands (suc (suc zero)) f l h g = absurd (omega arith)
+two-operands (suc (suc (suc zero))) f l h g = absurd (omega arith)
+two-operands (suc (suc (suc (suc zero)))) f l h g = absurd (omega arith)
+two-operands (suc (suc (suc (suc (suc n))))) f l h g = from-5 n f h g
 
 -- a kind is the one with its number and the fields that it uses
 abbrev pub usedFields : Uses → Fields

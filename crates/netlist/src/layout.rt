@@ -2,6 +2,7 @@
 // Each reader asks that what it reads lies within the file.
 use crate::record::Fields;
 use crate::record::Record;
+use crate::record::Role;
 use crate::record::Uses;
 use endian::read_16;
 use endian::read_64;
@@ -9,7 +10,7 @@ ghost use mathlib.Core.Path.{_≡_};
 ghost use Prim.Native.Nat.{_+_, _*_, _≤_, _<_, _^_};
 ghost use lib.ListN.{length};
 ghost use Rattle.netlist.specs.Kinds.{usesOf};
-ghost use Rattle.netlist.specs.Layout.{headerSize, recordSize, recordStart, keepStart, countOf, versionOf, codeAt, widthAt, fieldsAt, keepAt, recordAt};
+ghost use Rattle.netlist.specs.Layout.{headerSize, recordSize, recordStart, keepStart, countOf, versionOf, codeAt, widthAt, fieldsAt, keepAt, recordAt, designOf, roleAt};
 
 // The sizes of the header and of a record, in bytes.
 pub const HEADER: usize = 8;
@@ -97,12 +98,18 @@ pub fn record_at(file: &[u8], i: usize) -> Record
     )
 }
 
+// The role of record i.
+pub fn role_at(file: &[u8], i: usize) -> Role
+    requires { ⌜ recordStart i + recordSize ≤ length (now file) ⌝ }
+    ensures { λ r. ⌜ r ≡ roleAt (designOf (now (file .entry))) i ⌝ }
+{
+    Role::new(code_at(file, i), fields_at(file, i))
+}
+
 // What the kind of record i uses.
 pub fn uses_at(file: &[u8], i: usize) -> Uses
     requires { ⌜ recordStart i + recordSize ≤ length (now file) ⌝ }
     ensures { λ r. ⌜ r ≡ usesOf (recordAt (now (file .entry)) i .kind) ⌝ }
 {
-    let record = record_at(file, i);
-    let kind = record.kind;
-    kind.uses()
+    Uses::new(code_at(file, i), fields_at(file, i))
 }

@@ -1,7 +1,12 @@
 // A record of a netlist: its kind with the operands that the kind uses, and beside it the width and the keep word.
 // What the code knows of a kind stands here, in `fit` (the width rules, the number of an output), in `result` and in `demand`.
 ghost use mathlib.Core.Path.{_≡_};
+ghost use mathlib.Core.Bool.{cond};
+ghost use Prim.Native.Nat.{_≤_, _<_};
+ghost use lib.Dec.{ltb};
 ghost use Rattle.netlist.specs.Kinds.{kindOf, usesOf, none, one, two, three};
+ghost use Rattle.netlist.specs.Limits.{kindCount};
+ghost use Rattle.netlist.specs.declared.record.Role.the-variants.{Input, Gate};
 
 // The four fields of a record in the file, used or not.
 pub struct Fields {
@@ -100,31 +105,82 @@ impl Kind {
             _ => Kind::Input,
         }
     }
+}
 
-    pub fn uses(self) -> Uses
-        ensures { λ r. ⌜ r ≡ usesOf self ⌝ }
+impl Role {
+    // The role of the kind with a number.
+    pub fn new(code: u64, fields: Fields) -> Role
+        ensures { λ r. ⌜ r ≡ usesOf (kindOf code fields) .role ⌝ }
     {
-        match self {
-            Kind::Input => Uses::none(0, 0, Role::Input),
-            Kind::Constant { k } => Uses::none(k, k, Role::Gate),
-            Kind::Register { a, k } => Uses::one(a, k, k, Role::Register { a, k }),
-            Kind::Output { a } => Uses::one(a, 0, 0, Role::Output),
-            Kind::Extract { a, k } => Uses::one(a, k, 0, Role::Gate),
-            Kind::Concat { a, b } => Uses::two(a, b),
-            Kind::And { a, b } => Uses::two(a, b),
-            Kind::Or { a, b } => Uses::two(a, b),
-            Kind::Xor { a, b } => Uses::two(a, b),
-            Kind::Mux { a, b, c } => Uses::three(a, b, c),
-            Kind::Add { a, b } => Uses::two(a, b),
-            Kind::Sub { a, b } => Uses::two(a, b),
-            Kind::Mul { a, b } => Uses::two(a, b),
-            Kind::Equal { a, b } => Uses::two(a, b),
-            Kind::Below { a, b } => Uses::two(a, b),
+        let a = fields.a;
+        let k = fields.k;
+        match code {
+            0 => Role::Input,
+            2 => Role::Register { a, k },
+            3 => Role::Output,
+            _ => Role::of_other(code),
+        }
+    }
+
+    // A number above those of the kinds reads as an input.
+    fn of_other(code: u64) -> Role
+        ensures { λ r. ⌜ r ≡ cond (ltb code kindCount) Gate Input ⌝ }
+    {
+        if code < Record::KINDS {
+            Role::Gate
+        } else {
+            Role::Input
         }
     }
 }
 
 impl Uses {
+    // What the kind with a number uses. The kinds are ordered by their operands: first those with none, then those with one, and only a
+    // mux has three. The tests of ranges below are foreseen better than a jump by the number would be.
+    pub fn new(code: u64, fields: Fields) -> Uses
+        ensures { λ r. ⌜ r ≡ usesOf (kindOf code fields) ⌝ }
+    {
+        if code < 2 {
+            return Uses::of_source(code, fields);
+        }
+        if code < 5 {
+            return Uses::of_single(code, fields);
+        }
+        if code == 9 {
+            return Uses::three(fields.a, fields.b, fields.c);
+        }
+        if code < Record::KINDS {
+            return Uses::two(fields.a, fields.b);
+        }
+        Uses::none(0, 0, Role::Input)
+    }
+
+    // What an input or a constant uses, the kinds with no operand.
+    pub fn of_source(code: u64, fields: Fields) -> Uses
+        requires { ⌜ code < 2 ⌝ }
+        ensures { λ r. ⌜ r ≡ usesOf (kindOf code fields) ⌝ }
+    {
+        let k = fields.k;
+        match code {
+            0 => Uses::none(0, 0, Role::Input),
+            _ => Uses::none(k, k, Role::Gate),
+        }
+    }
+
+    // What a register, an output or an extract uses, the kinds with one operand.
+    pub fn of_single(code: u64, fields: Fields) -> Uses
+        requires { ⌜ (2 ≤ code) × (code < 5) ⌝ }
+        ensures { λ r. ⌜ r ≡ usesOf (kindOf code fields) ⌝ }
+    {
+        let a = fields.a;
+        let k = fields.k;
+        match code {
+            2 => Uses::one(a, k, k, Role::Register { a, k }),
+            3 => Uses::one(a, 0, 0, Role::Output),
+            _ => Uses::one(a, k, 0, Role::Gate),
+        }
+    }
+
     fn none(k: u64, word: u64, role: Role) -> Uses
         ensures { λ r. ⌜ r ≡ none k word role ⌝ }
     {
@@ -153,7 +209,7 @@ impl Uses {
         }
     }
 
-    fn two(a: usize, b: usize) -> Uses
+    pub fn two(a: usize, b: usize) -> Uses
         ensures { λ r. ⌜ r ≡ two a b ⌝ }
     {
         Uses {
@@ -167,7 +223,7 @@ impl Uses {
         }
     }
 
-    fn three(a: usize, b: usize, c: usize) -> Uses
+    pub fn three(a: usize, b: usize, c: usize) -> Uses
         ensures { λ r. ⌜ r ≡ three a b c ⌝ }
     {
         Uses {

@@ -6,6 +6,7 @@ use bits::arith::shl;
 use bits::arith::shr;
 use bits::arith::sub;
 use bits::mask::cut_to;
+use netlist::layout::fields_at;
 use netlist::layout::record_at;
 use netlist::layout::width_at;
 use netlist::record::Kind;
@@ -78,17 +79,18 @@ fn result_of(kind: Kind, w: u64, wb: u64, own: u64, x: u64, y: u64, z: u64) -> u
     }
 }
 
-// The result of record i on a board where its operands have their values.
+// The result of record i on a board where its operands have their values. A field that its kind has no use for is 0, so all three are read
+// before the kind is looked at.
 pub fn result_at(file: &[u8], board: &[u64], i: usize) -> u64
     requires { ⌜ Acceptance (now file) (countOf (now file)) × (i < countOf (now file)) × (length (now board) ≡ countOf (now file)) ⌝ }
     ensures { λ r. ⌜ r ≡ resultAt (designOf (now (file .entry)) .at) (wordAt (now (board .entry))) i ⌝ }
 {
     let record = record_at(file, i);
     let kind = record.kind;
-    let uses = kind.uses();
-    let a = uses.a;
-    let b = uses.b;
-    let c = uses.c;
+    let fields = fields_at(file, i);
+    let a = fields.a;
+    let b = fields.b;
+    let c = fields.c;
     result_of(
         kind,
         record.width,

@@ -1,5 +1,5 @@
 -- What acceptance means: an accepted file holds a sound design of its count and has the length that the count asks for; a
--- refused one names a record of the file. Assumes nothing.
+-- refused one names a record number below the limit. Assumes nothing.
 use mathlib.Core.Path.{_≡_, refl, sym, ap, subst, _∙_}
 use mathlib.Core.Logic.{_⊎_, inl, inr}
 use mathlib.Core.List.{List}
@@ -95,6 +95,7 @@ accepted file n e =
               word = k .1 .1 .1 .1 .1 .0 .1 .0;
             };
       };
+      fields = λ i h. kept .each i (subst (λ (m : ℕ). i < m) same h) .1 .1 .1 .1 .0;
     }
 
 -- an accepted file may be spoken of with its own count
@@ -120,11 +121,11 @@ refused-record file r j (suc left) i e = go (firstBroken (recordRules file i)) e
     go Pass e later = let h = later e in omega arith
     go (Fail s) e later = let p : i ≡ j = cc in omega arith
 
-pub refused-low : (file : List ℕ) (r : Refusal) (j : ℕ) → checkOf file ≡ Refused r j → j ≤ maxCount
+pub refused-low : (file : List ℕ) (r : Refusal) (j : ℕ) → checkOf file ≡ Refused r j → j < maxCount
 unfolding checkOf refuseAt headerRules
 refused-low file r j e = go (firstBroken (headerRules file)) refl e
   where
-    go : (v : Verdict) → firstBroken (headerRules file) ≡ v → refuseAt 0 v (checkFrom file (countOf file) 0) ≡ Refused r j → j ≤ maxCount
+    go : (v : Verdict) → firstBroken (headerRules file) ≡ v → refuseAt 0 v (checkFrom file (countOf file) 0) ≡ Refused r j → j < maxCount
     go Pass q e =
         let h = refused-record file r j (countOf file) 0 e in
         let few = pass-kept (headerRules file) q .1 .1 .1 .0 .0 in

@@ -7,12 +7,12 @@ use Prim.Native.Nat.{ℕ, suc, _+_, _-_, _^_, _≤_, _<_}
 use native.Mathlib.Nat.{le-refl}
 use native.Mathlib.Numerals.{add-one}
 use native.Mathlib.Omega.{arith}
-use Rattle.netlist.specs.Kinds.{operandsOf, usesOf, widthRules}
-use Rattle.netlist.specs.Layout.{designOf, recordAt, countOf, widthAt}
+use Rattle.netlist.specs.Kinds.{kindOf, operandsOf, usesOf, widthRules}
+use Rattle.netlist.specs.Layout.{designOf, recordAt, countOf, codeAt, widthAt, fieldsAt, keepAt}
 use Rattle.netlist.specs.Refusals.{numberOf}
 use Rattle.netlist.specs.Rules.{Rule, below, testAll, AllHold}
 use Rattle.netlist.specs.declared.refusal.Refusal.{Refusal}
-use Rattle.netlist.specs.declared.record.Record.{Record}
+use Rattle.netlist.specs.declared.record.Fields.{Fields}
 use Rattle.netlist.specs.declared.record.Role.{Role}
 use Rattle.netlist.specs.declared.record.Role.the-variants.{Input, Register, Output, Gate}
 use Rattle.netlist.specs.declared.record.Uses.{Uses}
@@ -80,16 +80,17 @@ limit-le (Register a k) n i h = le-refl n
 limit-le Output n i h = h
 limit-le Gate n i h = h
 
--- a record as read, and what its kind uses, stand for the design's
-module _ (file : List ℕ) (i : ℕ) (r : Record) (u : Uses) (er : r ≡ recordAt file i) (eu : u ≡ usesOf (r .kind)) where
+-- what was read of a record, and what its kind uses, stand for the design's
+module _ (file : List ℕ) (i : ℕ) (u : Uses) (eu : u ≡ usesOf (recordAt file i .kind)) where
   pub operand-rules : (n limit : ℕ) → n ≡ countOf file → limit ≡ operandLimit (u .role) n i → namesRules (designOf file) limit (operandsOf u) ≡ operandRules (designOf file) i
   unfolding operandRules designOf
-  operand-rules n limit en el = rw (el, en, eu, er)
+  operand-rules n limit en el = rw (el, en, eu)
 
-  pub width-rules : (wa wb wc : ℕ) → wa ≡ widthAt file (u .a) → wb ≡ widthAt file (u .b) → wc ≡ widthAt file (u .c) → widthRules (r .kind) (r .width) wa wb wc ≡ widthRulesAt (designOf file) i
-  unfolding widthRulesAt designOf recordAt
-  width-rules wa wb wc ea eb ec = rw (ea, eb, ec, eu, er)
+  module _ (w : ℕ) (ew : w ≡ widthAt file i) where
+    pub width-rules : (code : ℕ) (f : Fields) → code ≡ codeAt file i → f ≡ fieldsAt file i → (wa wb wc : ℕ) → wa ≡ widthAt file (u .a) → wb ≡ widthAt file (u .b) → wc ≡ widthAt file (u .c) → widthRules (kindOf code f) w wa wb wc ≡ widthRulesAt (designOf file) i
+    unfolding widthRulesAt designOf recordAt
+    width-rules code f ec ef wa wb wc ea eb e = rw (ea, eb, e, eu, ec, ef, ew)
 
-  pub word-rules : below (r .keep) (2 ^ r .width) ∷ below (u .word) (2 ^ r .width) ∷ [] ≡ wordRules (designOf file .at i)
-  unfolding wordRules designOf
-  word-rules = rw (eu, er)
+    pub word-rules : (keep : ℕ) → keep ≡ keepAt file i → below keep (2 ^ w) ∷ below (u .word) (2 ^ w) ∷ [] ≡ wordRules (designOf file .at i)
+    unfolding wordRules designOf recordAt
+    word-rules keep ek = rw (ek, eu, ew)

@@ -6,9 +6,9 @@ use Prim.Native.Nat.{ℕ, _^_, _≤_, _<_}
 use lib.ListN.{length}
 use Rattle.netlist.specs.Limits.{maxWidth, maxCount}
 use Rattle.netlist.specs.Kinds.{usesOf}
-use Rattle.netlist.specs.Layout.{Design, designOf, countOf, recordStart}
+use Rattle.netlist.specs.Layout.{Design, designOf, countOf, recordStart, recordAt, fieldsAt}
 use Rattle.netlist.specs.Rules.{AllHold}
-use Rattle.rules.specs.Fit.{operandRules, widthRulesAt}
+use Rattle.rules.specs.Fit.{operandRules, widthRulesAt, fieldRules}
 
 -- What acceptance says of record i: its width lies within the limits, its operands are in range and no outputs, its kind's
 -- width rule holds, and its keep word and the k of a constant or register have no bit at w or above.
@@ -20,16 +20,18 @@ pub record SoundRecord (d : Design) (i : ℕ) : Type 0 where
   pub keep : d .at i .keep < 2 ^ d .at i .width
   pub word : usesOf (d .at i .kind) .word < 2 ^ d .at i .width
 
--- An accepted design.
+-- What acceptance says of a design.
 pub record Sound (d : Design) : Type 0 where
   pub few : d .count ≤ maxCount
   pub each : (i : ℕ) → i < d .count → SoundRecord d i
 
--- What acceptance with n records says of a file: its count and length, and that its design is sound.
+-- What acceptance with n records says of a file: its count and length, that its design is sound, and that the fields of each record
+-- are those that its kind uses.
 pub record Acceptance (file : List ℕ) (n : ℕ) : Type 0 where
   pub count : n ≡ countOf file
   pub size : length file ≡ recordStart n
   pub sound : Sound (designOf file)
+  pub fields : (i : ℕ) → i < n → AllHold (fieldRules (fieldsAt file i) (usesOf (recordAt file i .kind)))
 
 -- Two designs have the same count, and the same record at each number below it.
 pub record SameDesign (d e : Design) : Type 0 where

@@ -4,6 +4,7 @@ use answer::refused;
 use board::reset::reset;
 use checker::check;
 use clock::Clocked;
+use endian::SHORT_LIST;
 use endian::read_words;
 use endian::write_words;
 use netlist::record::Record;
@@ -74,6 +75,11 @@ fn run_buffers(file: &[u8], board: &mut [u8], next: &mut [u8], n: usize) -> Cloc
     ensures board { λ r. ⌜ now (board .exit) ≡ leaves r (wordBytes (bufferValues (now (file .entry)) (now (board .entry)))) (now (board .entry)) ⌝ }
     ensures next { λ r. ⌜ now (next .exit) ≡ leaves r (wordBytes (bufferNext (now (file .entry)) (now (board .entry)))) (now (next .entry)) ⌝ }
 {
+    if n <= SHORT_LIST {
+        let mut words: [u64; SHORT_LIST] = [0; SHORT_LIST];
+        let mut states: [u64; SHORT_LIST] = [0; SHORT_LIST];
+        return run_words(file, board, next, &mut words[..n], &mut states[..n]);
+    }
     let mut words: [u64; Record::MAX_COUNT] = [0; Record::MAX_COUNT];
     let mut states: [u64; Record::MAX_COUNT] = [0; Record::MAX_COUNT];
     run_words(file, board, next, &mut words[..n], &mut states[..n])

@@ -9,11 +9,10 @@ use lib.Dec.{ltb}
 use lib.ListN.{length, drop, getD}
 use borrow.Author.Tests.{lt-ltb, le-ltb, not-true, not-false}
 use denote.Ref.{now}
-use Rattle.netlist.specs.Kinds.{operandsOf, usesOf}
+use Rattle.netlist.specs.Kinds.{kindOf, operandsOf, usesOf}
 use Rattle.netlist.specs.Layout.{Design, designOf, recordAt, recordStart, recordSize, fieldsAt}
 use Rattle.netlist.specs.Rules.{testAll}
 use Rattle.netlist.specs.declared.record.Fields.{Fields}
-use Rattle.netlist.specs.declared.record.Record.{Record}
 use Rattle.netlist.specs.declared.record.Uses.{Uses}
 use Rattle.netlist.proofs.KindLaws.{padded, Padded}
 use Rattle.rules.specs.Fit.{widthRange, fieldRules, widthRulesAt, operandRules, wordRules}
@@ -24,18 +23,24 @@ use Rattle.rules.proofs.CheckLaws.{holding, broken, none-broken, limit-le, oper
 use Rattle.checker.proofs.check_record.Statement.{statement}
 use Rattle.checker.proofs.check_record.Tie as tie
 
--- where the function began, from the place after each test that passed
+-- where the function began, from the place after each test that passed, and where the fields had been read
+abbrev from-1 : tie.Else1 → tie.Start
+from-1 c = c .before .before .before
+
 abbrev from-2 : tie.Else2 → tie.Start
-from-2 c = c .before .before .before .before .before .before .before
+from-2 c = from-1 (c .before .before .before)
 
-abbrev from-3 : tie.Else3 → tie.Start
-from-3 c = from-2 (c .before .before .before)
+abbrev from-new : tie.After-new → tie.Start
+from-new c = from-2 (c .before .before)
 
-abbrev from-4 : tie.Else4 → tie.Start
-from-4 c = from-3 (c .before .before .before .before .before)
+abbrev new-3 : tie.Else3 → tie.After-new
+new-3 c = c .before .before .before
 
-abbrev from-5 : tie.Else5 → tie.Start
-from-5 c = from-4 (c .before .before .before)
+abbrev new-4 : tie.Else4 → tie.After-new
+new-4 c = new-3 (c .before .before .before .before .before)
+
+abbrev new-5 : tie.Else5 → tie.After-new
+new-5 c = new-4 (c .before .before)
 
 abbrev file-of : tie.Start → List ℕ
 file-of s = now (s .args .file)
@@ -43,71 +48,70 @@ file-of s = now (s .args .file)
 abbrev design-of : tie.Start → Design
 design-of s = designOf (file-of s)
 
--- the record as read, and what its kind uses, from the second test on
-abbrev record-of : tie.Else2 → Record
-record-of c = c .before .before .before .record-at .result
-
-record-read : (c : tie.Else2) → record-of c ≡ recordAt (file-of (from-2 c)) (from-2 c .args .i)
-record-read c = c .before .before .before .record-at .ensures
-
-abbrev used-of : tie.Else2 → Uses
-used-of c = c .before .before .uses .result
-
-used-read : (c : tie.Else2) → used-of c ≡ usesOf (record-of c .kind)
-used-read c = c .before .before .uses .ensures
+-- what the kind uses, and the width, as read
+used-read : (c : tie.After-new) → c .new .result ≡ usesOf (recordAt (file-of (from-new c)) (from-new c .args .i) .kind)
+unfolding recordAt
+used-read c =
+    c .new .ensures
+    ∙ ap₂ (λ (n : ℕ) (f : Fields). usesOf (kindOf n f)) (c .before .before .before .before .before .before .code-at .ensures)
+    (c .before .fields-at .ensures)
 
 -- the tests, as tests of the rules
-width-test : (c : tie.After-width-in-range) → c .width-in-range .result ≡ testAll (widthRange (design-of (c .before .before .before .before .before .before) .at (c .before .before .before .before .before .before .args .i) .width))
-unfolding designOf
-width-test c = c .width-in-range .ensures ∙ ap (λ (r : Record). testAll (widthRange (r .width))) (c .before .before .record-at .ensures)
+width-test : (c : tie.After-width-in-range) → c .width-in-range .result ≡ testAll (widthRange (design-of (from-1 (c .before .before)) .at (from-1 (c .before .before) .args .i) .width))
+unfolding designOf recordAt
+width-test c = c .width-in-range .ensures ∙ ap (λ (w : ℕ). testAll (widthRange w)) (c .before .width-at .ensures)
 
-operand-test : (c : tie.After-operands-fit) → c .operands-fit .result ≡ testAll (operandRules (design-of (from-2 (c .before .before))) (from-2 (c .before .before) .args .i))
+operand-test : (c : tie.After-operands-fit) → c .operands-fit .result ≡ testAll (operandRules (design-of (from-new (c .before .before))) (from-new (c .before .before) .args .i))
 operand-test c =
-    let e = c .before .before in
-    let s = from-2 e in
+    let u = c .before .before in
+    let s = from-new u in
     c .operands-fit .ensures
     ∙ ap testAll
-    (operand-rules (file-of s) (s .args .i) (record-of e) (used-of e) (record-read e) (used-read e) (s .args .n) (c .before .operand-limit .result)
-    (s .pre .0) (c .before .operand-limit .ensures))
+    (operand-rules (file-of s) (s .args .i) (u .new .result) (used-read u) (s .args .n) (c .before .operand-limit .result) (s .pre .0)
+    (c .before .operand-limit .ensures))
 
-widths-test : (c : tie.After-widths-fit) → c .widths-fit .result ≡ testAll (widthRulesAt (design-of (from-3 (c .before .before .before .before))) (from-3 (c .before .before .before .before) .args .i))
+widths-test : (c : tie.After-widths-fit) → let s = from-new (new-3 (c .before .before .before .before)) in c .widths-fit .result ≡ testAll (widthRulesAt (design-of s) (s .args .i))
 widths-test c =
-    let e = c .before .before .before .before .before .before .before in
-    let s = from-2 e in
+    let u = new-3 (c .before .before .before .before) in
+    let s = from-new u in
+    let w = u .before .before .before .before .width-at in
+    let code = u .before .before .before .before .before .before .code-at in
     c .widths-fit .ensures
     ∙ ap testAll
-    (width-rules (file-of s) (s .args .i) (record-of e) (used-of e) (record-read e) (used-read e) (c .before .before .before .width-at .result)
-    (c .before .before .width-at2 .result) (c .before .width-at3 .result) (c .before .before .before .width-at .ensures)
-    (c .before .before .width-at2 .ensures) (c .before .width-at3 .ensures))
+    (width-rules (file-of s) (s .args .i) (u .new .result) (used-read u) (w .result) (w .ensures) (code .result) (u .before .fields-at .result)
+    (code .ensures) (u .before .fields-at .ensures) (c .before .before .before .width-at2 .result) (c .before .before .width-at3 .result)
+    (c .before .width-at4 .result) (c .before .before .before .width-at2 .ensures) (c .before .before .width-at3 .ensures)
+    (c .before .width-at4 .ensures))
 
-fields-test : (c : tie.After-fields-fit) → c .fields-fit .result ≡ testAll (fieldRules (fieldsAt (file-of (from-4 (c .before .before))) (from-4 (c .before .before) .args .i)) (usesOf (design-of (from-4 (c .before .before)) .at (from-4 (c .before .before) .args .i) .kind)))
+fields-test : (c : tie.After-fields-fit) → let s = from-new (new-4 (c .before)) in c .fields-fit .result ≡ testAll (fieldRules (fieldsAt (file-of s) (s .args .i)) (usesOf (design-of s .at (s .args .i) .kind)))
 unfolding designOf
 fields-test c =
-    let e = c .before .before .before .before .before .before .before .before .before .before in
-    c .fields-fit .ensures
-    ∙ ap₂ (λ (f : Fields) (u : Uses). testAll (fieldRules f u)) (c .before .fields-at .ensures)
-    (used-read e ∙ ap (λ (r : Record). usesOf (r .kind)) (record-read e))
+    let u = new-4 (c .before) in
+    c .fields-fit .ensures ∙ ap₂ (λ (f : Fields) (v : Uses). testAll (fieldRules f v)) (u .before .fields-at .ensures) (used-read u)
 
-words-test : (c : tie.After-words-fit) → c .words-fit .result ≡ testAll (wordRules (design-of (from-5 (c .before)) .at (from-5 (c .before) .args .i)))
+words-test : (c : tie.After-words-fit) → let s = from-new (new-5 (c .before .before)) in c .words-fit .result ≡ testAll (wordRules (design-of s .at (s .args .i)))
 words-test c =
-    let e = c .before .before .before .before .before .before .before .before .before .before .before .before in
-    let s = from-2 e in
-    c .words-fit .ensures ∙ ap testAll (word-rules (file-of s) (s .args .i) (record-of e) (used-of e) (record-read e) (used-read e))
+    let u = new-5 (c .before .before) in
+    let s = from-new u in
+    let w = u .before .before .before .before .width-at in
+    c .words-fit .ensures
+    ∙ ap testAll
+    (word-rules (file-of s) (s .args .i) (u .new .result) (used-read u) (w .result) (w .ensures) (c .before .keep-at .result) (c .before .keep-at .ensures))
 
 -- the operand fields, used or not, name records of the file
-limit-low : (c : tie.After-operand-limit) → c .operand-limit .result ≤ from-2 (c .before) .args .n
+limit-low : (c : tie.After-operand-limit) → c .operand-limit .result ≤ from-new (c .before) .args .n
 limit-low c =
-    let s = from-2 (c .before) in
+    let s = from-new (c .before) in
     subst (λ (l : ℕ). l ≤ s .args .n) (sym (c .operand-limit .ensures))
-    (limit-le (used-of (c .before) .role) (s .args .n) (s .args .i) (omega (arith, s .pre .2)))
+    (limit-le (c .before .new .result .role) (s .args .n) (s .args .i) (omega (arith, s .pre .2)))
 
-uses-padded : (c : tie.Else2) → Padded (used-of c)
-uses-padded c = subst Padded (sym (used-read c)) (padded (record-of c .kind))
+uses-padded : (c : tie.After-new) → Padded (c .new .result)
+uses-padded c = subst Padded (sym (used-read c)) (padded (recordAt (file-of (from-new c)) (from-new c .args .i) .kind))
 
-operand-low : (c : tie.Else3) (k j : ℕ) → j ≡ getD (operandsOf (used-of (c .before .before .before))) k 0 → recordStart j + recordSize ≤ length (file-of (from-3 c))
+operand-low : (c : tie.Else3) (k j : ℕ) → j ≡ getD (operandsOf (new-3 c .new .result)) k 0 → recordStart j + recordSize ≤ length (file-of (from-new (new-3 c)))
 operand-low c k j e =
-    let s = from-3 c in
-    let h = operand-below (design-of s) (c .before .before .operand-limit .result) (s .args .n) (operandsOf (used-of (c .before .before .before)))
+    let s = from-new (new-3 c) in
+    let h = operand-below (design-of s) (c .before .before .operand-limit .result) (s .args .n) (operandsOf (new-3 c .new .result))
     (limit-low (c .before .before)) (omega (arith, s .pre .2)) (sym (c .before .operands-fit .ensures) ∙ not-false _ (c .if3 .left)) k in
     omega (arith, h, s .pre .1)
 
@@ -115,25 +119,25 @@ operand-low c k j e =
 Leaves : tie.Start → ℕ → Type 0
 Leaves s n = (v : Verdict) → v ≡ firstBroken (drop n (recordRules (file-of s) (s .args .i))) → v ≡ firstBroken (recordRules (file-of s) (s .args .i))
 
-kind-known : (c : tie.Else1) → Leaves (c .before .before .before) 1
+kind-known : (c : tie.Else1) → Leaves (from-1 c) 1
 unfolding Leaves recordRules
 kind-known c v = holding _ _ (and-true _ ∙ ap (λ (n : ℕ). ltb n 15) (sym (c .before .code-at .ensures)) ∙ lt-ltb _ _ (c .if1 .left))
 
 width-right : (c : tie.Else2) → Leaves (from-2 c) 2
 unfolding Leaves recordRules
-width-right c v e = kind-known (c .before .before .before .before) v (holding _ _ (sym (width-test (c .before)) ∙ not-false _ (c .if2 .left)) e)
+width-right c v e = kind-known (c .before .before .before) v (holding _ _ (sym (width-test (c .before)) ∙ not-false _ (c .if2 .left)) e)
 
-operands-right : (c : tie.Else3) → Leaves (from-3 c) 3
+operands-right : (c : tie.Else3) → Leaves (from-new (new-3 c)) 3
 unfolding Leaves recordRules
-operands-right c v e = width-right (c .before .before .before) v (holding _ _ (sym (operand-test (c .before)) ∙ not-false _ (c .if3 .left)) e)
+operands-right c v e = width-right (new-3 c .before .before) v (holding _ _ (sym (operand-test (c .before)) ∙ not-false _ (c .if3 .left)) e)
 
-widths-right : (c : tie.Else4) → Leaves (from-4 c) 4
+widths-right : (c : tie.Else4) → Leaves (from-new (new-4 c)) 4
 unfolding Leaves recordRules
 widths-right c v e = operands-right (c .before .before .before .before .before) v (holding _ _ (sym (widths-test (c .before)) ∙ not-false _ (c .if4 .left)) e)
 
-fields-right : (c : tie.Else5) → Leaves (from-5 c) 5
+fields-right : (c : tie.Else5) → Leaves (from-new (new-5 c)) 5
 unfolding Leaves recordRules
-fields-right c v e = widths-right (c .before .before .before) v (holding _ _ (sym (fields-test (c .before)) ∙ not-false _ (c .if5 .left)) e)
+fields-right c v e = widths-right (c .before .before) v (holding _ _ (sym (fields-test (c .before)) ∙ not-false _ (c .if5 .left)) e)
 
 code-at-requires : tie.Need-code-at-requires
 code-at-requires c κs = omega arith
@@ -142,65 +146,68 @@ returns : tie.Need-returns
 unfolding recordRules
 returns c = broken _ _ (and-true _ ∙ ap (λ (n : ℕ). ltb n 15) (sym (c .before .code-at .ensures)) ∙ le-ltb _ _ (c .if1 .taken))
 
-record-at-requires : tie.Need-record-at-requires
-record-at-requires c κs = omega arith
-
-uses-requires : tie.Need-uses-requires
-uses-requires c κs = tt
+width-at-requires : tie.Need-width-at-requires
+width-at-requires c κs = omega arith
 
 width-in-range-requires : tie.Need-width-in-range-requires
 width-in-range-requires c κs = tt
 
 returns-2 : tie.Need-returns-2
 unfolding Leaves recordRules
-returns-2 c = kind-known (c .before .before .before .before) _ (broken _ _ (sym (width-test (c .before)) ∙ not-true _ (c .if2 .taken)))
+returns-2 c = kind-known (c .before .before .before) _ (broken _ _ (sym (width-test (c .before)) ∙ not-true _ (c .if2 .taken)))
+
+fields-at-requires : tie.Need-fields-at-requires
+fields-at-requires c κs = omega arith
+
+new-requires : tie.Need-new-requires
+new-requires c κs = tt
 
 operand-limit-requires : tie.Need-operand-limit-requires
 operand-limit-requires c κs = tt
 
 operands-fit-requires : tie.Need-operands-fit-requires
-operands-fit-requires c κs = omega (arith, limit-low c, from-2 (c .before) .pre .1)
+operands-fit-requires c κs = omega (arith, limit-low c, from-new (c .before) .pre .1)
 
 returns-3 : tie.Need-returns-3
 unfolding Leaves recordRules
-returns-3 c = width-right (c .before .before .before) _ (broken _ _ (sym (operand-test (c .before)) ∙ not-true _ (c .if3 .taken)))
-
-width-at-requires : tie.Need-width-at-requires
-width-at-requires c κs = operand-low c 0 _ (uses-padded (c .before .before .before) .first)
+returns-3 c = width-right (c .before .before .before .before .before) _ (broken _ _ (sym (operand-test (c .before)) ∙ not-true _ (c .if3 .taken)))
 
 width-at-requires-2 : tie.Need-width-at-requires-2
-width-at-requires-2 c κs = operand-low (c .before) 1 _ (uses-padded (c .before .before .before .before) .second)
+width-at-requires-2 c κs = operand-low c 0 _ (uses-padded (new-3 c) .first)
 
 width-at-requires-3 : tie.Need-width-at-requires-3
-width-at-requires-3 c κs = operand-low (c .before .before) 2 _ (uses-padded (c .before .before .before .before .before) .third)
+width-at-requires-3 c κs = operand-low (c .before) 1 _ (uses-padded (new-3 (c .before)) .second)
+
+width-at-requires-4 : tie.Need-width-at-requires-4
+width-at-requires-4 c κs = operand-low (c .before .before) 2 _ (uses-padded (new-3 (c .before .before)) .third)
 
 widths-fit-requires : tie.Need-widths-fit-requires
-widths-fit-requires c κs = tt
+widths-fit-requires c κs = new-3 (c .before .before .before) .before .before .before .before .before .if1 .left
 
 returns-4 : tie.Need-returns-4
 unfolding Leaves recordRules
 returns-4 c = operands-right (c .before .before .before .before .before) _ (broken _ _ (sym (widths-test (c .before)) ∙ not-true _ (c .if4 .taken)))
-
-fields-at-requires : tie.Need-fields-at-requires
-fields-at-requires c κs = let s = from-4 c in omega (arith, s .pre .1, s .pre .2)
 
 fields-fit-requires : tie.Need-fields-fit-requires
 fields-fit-requires c κs = tt
 
 returns-5 : tie.Need-returns-5
 unfolding Leaves recordRules
-returns-5 c = widths-right (c .before .before .before) _ (broken _ _ (sym (fields-test (c .before)) ∙ not-true _ (c .if5 .taken)))
+returns-5 c = widths-right (c .before .before) _ (broken _ _ (sym (fields-test (c .before)) ∙ not-true _ (c .if5 .taken)))
+
+keep-at-requires : tie.Need-keep-at-requires
+keep-at-requires c κs = let s = from-new (new-5 c) in omega (arith, s .pre .1, s .pre .2)
 
 words-fit-requires : tie.Need-words-fit-requires
 words-fit-requires c κs = tt
 
 returns-6 : tie.Need-returns-6
 unfolding Leaves recordRules
-returns-6 c = fields-right (c .before .before) _ (broken _ _ (sym (words-test (c .before)) ∙ not-true _ (c .if6 .taken)))
+returns-6 c = fields-right (c .before .before .before) _ (broken _ _ (sym (words-test (c .before)) ∙ not-true _ (c .if6 .taken)))
 
 returns-7 : tie.Need-returns-7
 unfolding Leaves recordRules
-returns-7 c = fields-right (c .before .before) _ (holding _ _ (sym (words-test (c .before)) ∙ not-false _ (c .if6 .left)) none-broken)
+returns-7 c = fields-right (c .before .before .before) _ (holding _ _ (sym (words-test (c .before)) ∙ not-false _ (c .if6 .left)) none-broken)
 
 pub check-record-spec : {M : Type 1} → statement M
 check-record-spec =
@@ -208,21 +215,22 @@ check-record-spec =
     (tie.spec
     code-at-requires
     returns
-    record-at-requires
-    uses-requires
+    width-at-requires
     width-in-range-requires
     returns-2
+    fields-at-requires
+    new-requires
     operand-limit-requires
     operands-fit-requires
     returns-3
-    width-at-requires
     width-at-requires-2
     width-at-requires-3
+    width-at-requires-4
     widths-fit-requires
     returns-4
-    fields-at-requires
     fields-fit-requires
     returns-5
+    keep-at-requires
     words-fit-requires
     returns-6
     returns-7)

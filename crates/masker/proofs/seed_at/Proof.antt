@@ -4,14 +4,14 @@ use mathlib.Core.Path.{sym, ap, subst, _∙_}
 use Prim.Native.Nat.{ℕ, _≤_}
 use denote.Ref.{now}
 use Rattle.netlist.specs.Layout.{designOf, recordAt}
-use Rattle.netlist.specs.declared.record.Uses.{Uses}
+use Rattle.netlist.specs.declared.record.Role.{Role}
 use Rattle.rules.proofs.Acceptance.{holds-record}
 use Rattle.care.specs.Least.{seedOf}
 use Rattle.masker.proofs.seed_at.Statement.{statement}
 use Rattle.masker.proofs.seed_at.Tie as tie
 
-uses-at-requires : tie.Need-uses-at-requires
-uses-at-requires c κs = holds-record (now (c .before .args .file)) (c .before .pre .0) (c .before .args .i) (c .before .pre .1)
+role-at-requires : tie.Need-role-at-requires
+role-at-requires c κs = holds-record (now (c .before .args .file)) (c .before .pre .0) (c .before .args .i) (c .before .pre .1)
 
 width-at-requires : tie.Need-width-at-requires
 width-at-requires c κs = let args = c .before .before .args in
@@ -26,10 +26,10 @@ seed-of-requires c κs = let args = c .before .before .before .args in
 
 returns : tie.Need-returns
 unfolding designOf recordAt
-returns c = let uses-at = c .before .before .uses-at in
+returns c = let role-at = c .before .before .role-at in
     let args = c .before .before .before .before .args in
-    c .seed-of .ensures ∙ ap (seedOf (uses-at .result .role)) (c .before .width-at .ensures)
-    ∙ ap (λ (u : Uses). seedOf (u .role) (designOf (now (args .file)) .at (args .i) .width)) (uses-at .ensures)
+    c .seed-of .ensures ∙ ap (seedOf (role-at .result)) (c .before .width-at .ensures)
+    ∙ ap (λ (r : Role). seedOf r (designOf (now (args .file)) .at (args .i) .width)) (role-at .ensures)
 
 pub seed-at-spec : {M : Type 1} → statement M
-seed-at-spec = tie.close (tie.spec uses-at-requires width-at-requires seed-of-requires returns)
+seed-at-spec = tie.close (tie.spec role-at-requires width-at-requires seed-of-requires returns)

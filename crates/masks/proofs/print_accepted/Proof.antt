@@ -30,21 +30,21 @@ print-tally-requires : tie.Need-print-tally-requires
 print-tally-requires c κs = search needs
 
 array-share-prefix-words : tie.Need-array-share-prefix-words
-array-share-prefix-words c = let fill = c .before .before .fill in
-    let args = c .before .before .before .before .before .args in
-    let pre = c .before .before .before .before .before .pre in
+array-share-prefix-words c = let fill = c .before .before .before .fill in
+    let args = c .before .before .before .before .before .before .args in
+    let pre = c .before .before .before .before .before .before .pre in
     front-within (fill .last .1 .0) _ (masks-length (now (args .file)) (args .n) pre (fill .ensures .1))
 
 slice-aggregate-print-masks : tie.Need-slice-aggregate-print-masks
-slice-aggregate-print-masks c = let fill = c .before .before .before .fill in
-    let args = c .before .before .before .before .before .before .args in
-    let pre = c .before .before .before .before .before .before .pre in
+slice-aggregate-print-masks c = let fill = c .before .before .before .before .fill in
+    let args = c .before .before .before .before .before .before .before .args in
+    let pre = c .before .before .before .before .before .before .before .pre in
     taken-length (fill .last .1 .0) _ (masks-length (now (args .file)) (args .n) pre (fill .ensures .1))
 
 print-masks-requires : tie.Need-print-masks-requires
-print-masks-requires c κs = let fill = c .before .before .before .fill in
-    let args = c .before .before .before .before .before .before .args in
-    let pre = c .before .before .before .before .before .before .pre in
+print-masks-requires c κs = let fill = c .before .before .before .before .fill in
+    let args = c .before .before .before .before .before .before .before .args in
+    let pre = c .before .before .before .before .before .before .before .pre in
     let file = now (args .file) in
     let a = pre in (
       with-count a,
@@ -52,7 +52,10 @@ print-masks-requires c κs = let fill = c .before .before .before .fill in
     )
 
 returns : tie.Need-returns
-returns c = search needs
+returns c = tt
+
+returns-2 : tie.Need-returns-2
+returns-2 c = tt
 
 pub print-accepted-spec : {M : Type 1} → statement M
 print-accepted-spec =
@@ -65,4 +68,5 @@ print-accepted-spec =
     array-share-prefix-words
     slice-aggregate-print-masks
     print-masks-requires
-    returns)
+    returns
+    returns-2)

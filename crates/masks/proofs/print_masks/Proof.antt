@@ -31,18 +31,21 @@ shared-slice-read-print-mask c = c .before .before .loop-test .taken
 print-mask-requires : tie.Need-print-mask-requires Inv-loop μ-loop
 print-mask-requires c κs = tt
 
-add-i : tie.Need-add-i Inv-loop μ-loop
-unfolding designOf
-add-i c = let f = c .before .before .before .before .before .before .before .pre .0 .sound .few in let h = c .before .before .before .before .loop .inv in omega arith
-
-loop-less : tie.Need-loop-less Inv-loop μ-loop
-loop-less c = let e = c .before .before .before .before .before .before .before .pre .1 in let t = c .before .before .before .loop-test .taken in omega arith
-
-loop-again : tie.Need-loop-again Inv-loop μ-loop
-loop-again c = let e = c .before .before .before .before .before .before .before .pre .1 in let t = c .before .before .before .loop-test .taken in omega arith
-
 returns : tie.Need-returns Inv-loop μ-loop
 returns c = tt
+
+add-i : tie.Need-add-i Inv-loop μ-loop
+unfolding designOf
+add-i c = let f = c .before .before .before .before .before .before .before .before .pre .0 .sound .few in let h = c .before .before .before .before .before .loop .inv in omega arith
+
+loop-less : tie.Need-loop-less Inv-loop μ-loop
+loop-less c = let e = c .before .before .before .before .before .before .before .before .pre .1 in let t = c .before .before .before .before .loop-test .taken in omega arith
+
+loop-again : tie.Need-loop-again Inv-loop μ-loop
+loop-again c = let e = c .before .before .before .before .before .before .before .before .pre .1 in let t = c .before .before .before .before .loop-test .taken in omega arith
+
+returns-2 : tie.Need-returns-2 Inv-loop μ-loop
+returns-2 c = tt
 
 pub print-masks-spec : {M : Type 1} → statement M
 print-masks-spec =
@@ -55,7 +58,8 @@ print-masks-spec =
     mul-print-mask
     shared-slice-read-print-mask
     print-mask-requires
+    returns
     add-i
     loop-less
     loop-again
-    returns)
+    returns-2)

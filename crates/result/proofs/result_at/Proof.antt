@@ -3,109 +3,79 @@
 use mathlib.Core.Path.{sym, subst, _∙_}
 use Prim.Native.Nat.{_≤_}
 use native.Mathlib.Omega.{arith}
-use borrow.Author.Needs.{needs}
 use denote.Ref.{now}
 use Rattle.netlist.specs.declared.record.Record.{Record}
-use Rattle.netlist.specs.Layout.{designOf}
+use Rattle.netlist.specs.Layout.{designOf, countOf}
 use Rattle.rules.proofs.Acceptance.{holds-record}
-use Rattle.result.proofs.Reading.{operands-in, result-read}
+use Rattle.result.proofs.Reading.{Inside, operands-in, result-read}
 use Rattle.result.proofs.result_at.Statement.{statement}
 use Rattle.result.proofs.result_at.Tie as tie
 
-record-at-requires : tie.Need-record-at-requires
-record-at-requires c κs = let args = c .before .before .args in
-    let pre = c .before .before .pre in
-    holds-record (now (args .file)) (pre .0) (args .i) (pre .1)
+-- where the function began, from the place where the fields had been read
+abbrev from : tie.After-fields-at → tie.Start
+from c = c .before .before .before .before
 
-uses-requires : tie.Need-uses-requires
-uses-requires c κs = search needs
+inside : (c : tie.After-fields-at) → Inside (countOf (now (from c .args .file))) (c .fields-at .result)
+inside c = let s = from c in operands-in (now (s .args .file)) (s .pre .0) (s .args .i) (s .pre .1) (c .fields-at .ensures)
+
+record-at-requires : tie.Need-record-at-requires
+record-at-requires c κs = let s = c .before .before in holds-record (now (s .args .file)) (s .pre .0) (s .args .i) (s .pre .1)
+
+fields-at-requires : tie.Need-fields-at-requires
+fields-at-requires c κs = let s = c .before .before .before in holds-record (now (s .args .file)) (s .pre .0) (s .args .i) (s .pre .1)
 
 width-at-requires : tie.Need-width-at-requires
-width-at-requires c κs = let args = c .before .before .before .before .args in
-    let file = now (args .file) in
-    let pre = c .before .before .before .before .pre in
-    holds-record file (pre .0) _ (operands-in file (pre .0) (args .i) (pre .1) (c .before .record-at .ensures) (c .uses .ensures) .b)
+width-at-requires c κs = let s = from c in holds-record (now (s .args .file)) (s .pre .0) _ (inside c .b)
 
 mul-result-of : tie.Need-mul-result-of
 unfolding designOf
-mul-result-of c = let pre = c .before .before .before .before .before .pre in
-    let l = pre .1 in let f = pre .0 .sound .few in omega arith
+mul-result-of c = let s = from (c .before) in omega (arith, s .pre .1, s .pre .0 .sound .few)
 
 shared-slice-read-result-of : tie.Need-shared-slice-read-result-of
-shared-slice-read-result-of c = let pre = c .before .before .before .before .before .before .pre in
-    let l = pre .1 in let e = pre .2 in omega arith
+shared-slice-read-result-of c = let s = from (c .before .before) in omega (arith, s .pre .1, s .pre .2)
 
 mul-result-of-2 : tie.Need-mul-result-of-2
 unfolding designOf
-mul-result-of-2 c = let uses = c .before .before .uses in
-    let record-at = c .before .before .before .record-at in
-    let args = c .before .before .before .before .before .before .args in
-    let pre = c .before .before .before .before .before .before .pre in
-    let l = operands-in (now (args .file)) (pre .0) (args .i) (pre .1) (record-at .ensures)
-    (uses .ensures) .a in let f = pre .0 .sound .few in omega arith
+mul-result-of-2 c = let read = c .before .before in omega (arith, inside read .a, from read .pre .0 .sound .few)
 
 shared-slice-read-result-of-2 : tie.Need-shared-slice-read-result-of-2
-shared-slice-read-result-of-2 c = let uses = c .before .before .before .uses in
-    let record-at = c .before .before .before .before .record-at in
-    let args = c .before .before .before .before .before .before .before .args in
-    let pre = c .before .before .before .before .before .before .before .pre in
-    let l = operands-in (now (args .file)) (pre .0) (args .i) (pre .1) (record-at .ensures) (uses .ensures) .a in let e = pre .2 in omega arith
+shared-slice-read-result-of-2 c = let read = c .before .before .before in omega (arith, inside read .a, from read .pre .2)
 
 mul-result-of-3 : tie.Need-mul-result-of-3
 unfolding designOf
-mul-result-of-3 c = let uses = c .before .before .before .uses in
-    let record-at = c .before .before .before .before .record-at in
-    let args = c .before .before .before .before .before .before .before .args in
-    let pre = c .before .before .before .before .before .before .before .pre in
-    let l = operands-in (now (args .file)) (pre .0) (args .i) (pre .1) (record-at .ensures)
-    (uses .ensures) .b in let f = pre .0 .sound .few in omega arith
+mul-result-of-3 c = let read = c .before .before .before in omega (arith, inside read .b, from read .pre .0 .sound .few)
 
 shared-slice-read-result-of-3 : tie.Need-shared-slice-read-result-of-3
-shared-slice-read-result-of-3 c = let uses = c .before .before .before .before .uses in
-    let record-at = c .before .before .before .before .before .record-at in
-    let args = c .before .before .before .before .before .before .before .before .args in
-    let pre = c .before .before .before .before .before .before .before .before .pre in
-    let l = operands-in (now (args .file)) (pre .0) (args .i) (pre .1) (record-at .ensures) (uses .ensures) .b in let e = pre .2 in omega arith
+shared-slice-read-result-of-3 c = let read = c .before .before .before .before in omega (arith, inside read .b, from read .pre .2)
 
 mul-result-of-4 : tie.Need-mul-result-of-4
 unfolding designOf
-mul-result-of-4 c = let uses = c .before .before .before .before .uses in
-    let record-at = c .before .before .before .before .before .record-at in
-    let args = c .before .before .before .before .before .before .before .before .args in
-    let pre = c .before .before .before .before .before .before .before .before .pre in
-    let l = operands-in (now (args .file)) (pre .0) (args .i) (pre .1) (record-at .ensures)
-    (uses .ensures) .c in let f = pre .0 .sound .few in omega arith
+mul-result-of-4 c = let read = c .before .before .before .before in omega (arith, inside read .c, from read .pre .0 .sound .few)
 
 shared-slice-read-result-of-4 : tie.Need-shared-slice-read-result-of-4
-shared-slice-read-result-of-4 c = let uses = c .before .before .before .before .before .uses in
-    let record-at = c .before .before .before .before .before .before .record-at in
-    let args = c .before .before .before .before .before .before .before .before .before .args in
-    let pre = c .before .before .before .before .before .before .before .before .before .pre in
-    let l = operands-in (now (args .file)) (pre .0) (args .i) (pre .1) (record-at .ensures) (uses .ensures) .c in let e = pre .2 in omega arith
+shared-slice-read-result-of-4 c = let read = c .before .before .before .before .before in omega (arith, inside read .c, from read .pre .2)
 
 result-of-requires : tie.Need-result-of-requires
 unfolding designOf
-result-of-requires c κs = let record-at = c .before .before .before .before .before .before .record-at in
-    let args = c .before .before .before .before .before .before .before .before .before .args in
-    let pre = c .before .before .before .before .before .before .before .before .before .pre in
-    subst (λ (r : Record). r .width ≤ 64) (sym (record-at .ensures)) (pre .0 .sound .each (args .i) (pre .1) .narrow)
+result-of-requires c κs =
+    let read = c .before .before .before .before .before in
+    let s = from read in
+    subst (λ (r : Record). r .width ≤ 64) (sym (read .before .record-at .ensures)) (s .pre .0 .sound .each (s .args .i) (s .pre .1) .narrow)
 
 returns : tie.Need-returns
-returns c = let width-at = c .before .before .before .before .before .width-at in
-    let uses = c .before .before .before .before .before .before .uses in
-    let record-at = c .before .before .before .before .before .before .before .record-at in
-    let start = c .before .before .before .before .before .before .before .before .before .before in
-    let args = start .args in
-    let pre = start .pre in
-    c .result-of .ensures ∙ result-read (now (args .file)) (pre .0) (args .i) (pre .1) (now (args .board)) (record-at .ensures) (uses .ensures)
-    (width-at .ensures)
+returns c =
+    let read = c .before .before .before .before .before .before in
+    let s = from read in
+    c .result-of .ensures
+    ∙ result-read (now (s .args .file)) (s .pre .0) (s .args .i) (s .pre .1) (now (s .args .board)) (read .before .record-at .ensures)
+    (read .fields-at .ensures) (c .before .before .before .before .before .width-at .ensures)
 
 pub result-at-spec : {M : Type 1} → statement M
 result-at-spec =
     tie.close
     (tie.spec
     record-at-requires
-    uses-requires
+    fields-at-requires
     width-at-requires
     mul-result-of
     shared-slice-read-result-of

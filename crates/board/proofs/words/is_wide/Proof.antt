@@ -5,14 +5,14 @@ use native.Mathlib.Omega.{arith}
 use denote.Ref.{now}
 use Rattle.endian.specs.Lists.{wordAt}
 use Rattle.netlist.specs.Layout.{designOf, recordAt, roleAt}
-use Rattle.netlist.specs.declared.record.Uses.{Uses}
+use Rattle.netlist.specs.declared.record.Role.{Role}
 use Rattle.rules.proofs.Acceptance.{holds-record}
 use Rattle.clock.specs.Call.{wordIsWide}
 use Rattle.board.proofs.words.is_wide.Statement.{statement}
 use Rattle.board.proofs.words.is_wide.Tie as tie
 
-uses-at-requires : tie.Need-uses-at-requires
-uses-at-requires c κs = let args = c .before .before .args in
+role-at-requires : tie.Need-role-at-requires
+role-at-requires c κs = let args = c .before .before .args in
     let pre = c .before .before .pre in
     holds-record (now (args .file)) (pre .0) (args .i) (pre .1)
 
@@ -35,17 +35,17 @@ word-is-wide-requires c κs = tt
 
 returns : tie.Need-returns
 unfolding designOf recordAt
-returns c = let uses-at = c .before .before .before .uses-at in
+returns c = let role-at = c .before .before .before .role-at in
     let args = c .before .before .before .before .before .before .args in
     let word = wordAt (now (args .board)) (args .i) in
-    c .word-is-wide .ensures ∙ ap (λ (u : Uses). wordIsWide (u .role) word (c .before .width-at .result)) (uses-at .ensures)
+    c .word-is-wide .ensures ∙ ap (λ (r : Role). wordIsWide r word (c .before .width-at .result)) (role-at .ensures)
     ∙ ap (wordIsWide (roleAt (designOf (now (args .file))) (args .i)) word) (c .before .width-at .ensures)
 
 pub is-wide-spec : {M : Type 1} → statement M
 is-wide-spec =
     tie.close
     (tie.spec
-    uses-at-requires
+    role-at-requires
     mul-word-is-wide
     shared-slice-read-word-is-wide
     width-at-requires

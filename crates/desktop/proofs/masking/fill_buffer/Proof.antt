@@ -1,39 +1,68 @@
--- `desktop::masking::fill_buffer` meets its contract: the front of a local list and the buffer are filled.
+-- `desktop::masking::fill_buffer` meets its contract: the front of a local list, short or long, and the buffer are filled.
 -- Assumes nothing.
-use mathlib.Core.Path.{sym, ap, _∙_}
-use Prim.Native.Nat.{ℕ, _*_}
+use mathlib.Core.Path.{_≡_, sym, ap, _∙_}
+use Prim.Native.Nat.{ℕ, _*_, _≤_}
+use lib.ListN.{length}
 use lib.Seq.{length-take-le}
 use borrow.Author.Needs.{needs}
 use denote.Ref.{now}
+use Rattle.netlist.specs.Layout.{countOf}
+use Rattle.netlist.specs.Limits.{maxCount}
 use Rattle.rules.proofs.Acceptance.{few, with-count}
 use Rattle.desktop.proofs.masking.fill_buffer.Statement.{statement}
 use Rattle.desktop.proofs.masking.fill_buffer.Tie as tie
 
-array-borrow-prefix-words : tie.Need-array-borrow-prefix-words
-array-borrow-prefix-words c = few (now (c .before .before .args .file)) (c .before .before .args .n) (c .before .before .pre .0)
+-- a list of n words is as long as the file asks, and an eighth of the buffer
+sized : (s : tie.Start) {m : ℕ} → m ≡ s .args .n → m ≡ countOf (now (s .args .file))
+sized s l = l ∙ s .pre .0 .count
+
+eighth : (s : tie.Start) {m : ℕ} → m ≡ s .args .n → length (now (s .args .buffer)) ≡ 8 * m
+eighth s l = s .pre .1 ∙ ap (λ (n : ℕ). 8 * n) (sym l)
+
+room : (s : tie.Start) → s .args .n ≤ maxCount
+room s = few (now (s .args .file)) (s .args .n) (s .pre .0)
+
+array-borrow-prefix-short : tie.Need-array-borrow-prefix-short
+array-borrow-prefix-short c = c .if1 .taken
 
 slice-aggregate-fill-both : tie.Need-slice-aggregate-fill-both
-slice-aggregate-fill-both c = let args = c .before .before .before .args in
-    sym (length-take-le (args .n) _ (few (now (args .file)) (args .n) (c .before .before .before .pre .0)))
+slice-aggregate-fill-both c = sym (length-take-le (c .before .before .before .before .args .n) _ (c .before .if1 .taken))
 
 fill-both-requires : tie.Need-fill-both-requires
-fill-both-requires c κs = let file = now (c .before .before .before .before .args .file) in
-    let a = c .before .before .before .before .pre .0 in
-    let l = length-take-le (c .before .before .before .before .args .n) _ (few file (c .before .before .before .before .args .n) a) in
-    (with-count a, l ∙ a .count, c .before .before .before .before .pre .1 ∙ ap (λ (n : ℕ). 8 * n) (sym l))
+fill-both-requires c κs = let s = c .before .before .before .before .before in let l = length-take-le (s .args .n) _ (c .before .before .if1 .taken) in (with-count (s .pre .0), sized s l, eighth s l)
 
 same-length : tie.Need-same-length
 same-length c = search needs
 
 returns : tie.Need-returns
-returns c = (c .before .before .before .fill-both .ensures .0, c .before .before .before .fill-both .ensures .1 .1)
+returns c = let filled = c .before .before .before .fill-both .ensures in (filled .0, filled .1 .1)
+
+array-borrow-prefix-words : tie.Need-array-borrow-prefix-words
+array-borrow-prefix-words c = room (c .before .before .before)
+
+slice-aggregate-fill-both-2 : tie.Need-slice-aggregate-fill-both-2
+slice-aggregate-fill-both-2 c = let s = c .before .before .before .before in sym (length-take-le (s .args .n) _ (room s))
+
+fill-both-requires-2 : tie.Need-fill-both-requires-2
+fill-both-requires-2 c κs = let s = c .before .before .before .before .before in let l = length-take-le (s .args .n) _ (room s) in (with-count (s .pre .0), sized s l, eighth s l)
+
+same-length-2 : tie.Need-same-length-2
+same-length-2 c = search needs
+
+returns-2 : tie.Need-returns-2
+returns-2 c = let filled = c .before .before .before .fill-both2 .ensures in (filled .0, filled .1 .1)
 
 pub fill-buffer-spec : {M : Type 1} → statement M
 fill-buffer-spec =
     tie.close
     (tie.spec
-    array-borrow-prefix-words
+    array-borrow-prefix-short
     slice-aggregate-fill-both
     fill-both-requires
     same-length
-    returns)
+    returns
+    array-borrow-prefix-words
+    slice-aggregate-fill-both-2
+    fill-both-requires-2
+    same-length-2
+    returns-2)

@@ -1,49 +1,35 @@
--- `desktop::trimming::trim_buffers` meets its contract: the masks are filled in, and the trimmed file is written by them.
+-- `desktop::trimming::trim_buffers` meets its contract: the front of a local list, short or long, is as long as the file has records.
 -- Assumes nothing.
-use mathlib.Core.Path.{sym, ap, _∙_}
-use Prim.Native.Nat.{ℕ, _*_}
+use mathlib.Core.Path.{_≡_, sym, ap, _∙_}
+use Prim.Native.Nat.{ℕ, _*_, _≤_}
+use lib.ListN.{length}
 use lib.Seq.{length-take-le}
 use borrow.Author.Needs.{needs}
 use denote.Ref.{now}
-use Rattle.endian.proofs.ListLaws.{front-within, front-taken, taken-length}
+use Rattle.netlist.specs.Layout.{countOf}
+use Rattle.netlist.specs.Limits.{maxCount}
 use Rattle.rules.proofs.Acceptance.{few, with-count}
-use Rattle.care.proofs.LeastMasks.{masks-length}
-use Rattle.trim.specs.Trimmed.{trimmedBy}
 use Rattle.desktop.proofs.trimming.trim_buffers.Statement.{statement}
 use Rattle.desktop.proofs.trimming.trim_buffers.Tie as tie
 
-array-borrow-prefix-words : tie.Need-array-borrow-prefix-words
-array-borrow-prefix-words c = let args = c .before .before .before .args in
-    few (now (args .file)) (args .n) (c .before .before .before .pre .0)
+-- a list of n words is as long as the file asks, and an eighth of the buffer
+sized : (s : tie.Start) {m : ℕ} → m ≡ s .args .n → m ≡ countOf (now (s .args .file))
+sized s l = l ∙ s .pre .0 .count
 
-slice-aggregate-fill-both : tie.Need-slice-aggregate-fill-both
-slice-aggregate-fill-both c = let start = c .before .before .before .before in
-    sym (length-take-le (start .args .n) _ (few (now (start .args .file)) (start .args .n) (start .pre .0)))
+eighth : (s : tie.Start) {m : ℕ} → m ≡ s .args .n → length (now (s .args .masks)) ≡ 8 * m
+eighth s l = s .pre .1 ∙ ap (λ (n : ℕ). 8 * n) (sym l)
 
-fill-both-requires : tie.Need-fill-both-requires
-fill-both-requires c κs = let start = c .before .before .before .before .before in
-    let file = now (start .args .file) in
-    let a = start .pre .0 in
-    let l = length-take-le (start .args .n) _ (few file (start .args .n) a) in
-    (with-count a, l ∙ a .count, start .pre .1 ∙ ap (λ (n : ℕ). 8 * n) (sym l))
+room : (s : tie.Start) → s .args .n ≤ maxCount
+room s = few (now (s .args .file)) (s .args .n) (s .pre .0)
 
-array-share-prefix-words : tie.Need-array-share-prefix-words
-array-share-prefix-words c = let start = c .before .before .before .before .before .before .before .before .before in
-    let fill-both = c .before .before .before .fill-both in
-    front-within (fill-both .last .1 .0) _ (masks-length (now (start .args .file)) (start .args .n) (start .pre .0) (fill-both .ensures .1 .0))
+array-borrow-prefix-short : tie.Need-array-borrow-prefix-short
+array-borrow-prefix-short c = c .if1 .taken
 
-slice-aggregate-write-trimmed : tie.Need-slice-aggregate-write-trimmed
-slice-aggregate-write-trimmed c = let start = c .before .before .before .before .before .before .before .before .before .before in
-    let fill-both = c .before .before .before .before .fill-both in
-    taken-length (fill-both .last .1 .0) _ (masks-length (now (start .args .file)) (start .args .n) (start .pre .0) (fill-both .ensures .1 .0))
+slice-aggregate-trim-all : tie.Need-slice-aggregate-trim-all
+slice-aggregate-trim-all c = sym (length-take-le (c .before .before .before .before .before .args .n) _ (c .before .if1 .taken))
 
-write-trimmed-requires : tie.Need-write-trimmed-requires
-write-trimmed-requires c κs = let start = c .before .before .before .before .before .before .before .before .before .before .before in
-    let fill-both = c .before .before .before .before .before .fill-both in
-    let file = now (start .args .file) in
-    let a = start .pre .0 in
-    let l = masks-length file (start .args .n) a (fill-both .ensures .1 .0) in
-    (with-count a, sym (taken-length (fill-both .last .1 .0) _ l) ∙ a .count, start .pre .2)
+trim-all-requires : tie.Need-trim-all-requires
+trim-all-requires c κs = let s = c .before .before .before .before .before .before .before in let l = length-take-le (s .args .n) _ (c .before .before .before .if1 .taken) in (with-count (s .pre .0), sized s l, eighth s l, s .pre .2)
 
 same-length : tie.Need-same-length
 same-length c = search needs
@@ -52,28 +38,39 @@ same-length-2 : tie.Need-same-length-2
 same-length-2 c = search needs
 
 returns : tie.Need-returns
-returns c = let start = c .before .before .before .before .before .before .before .before .before .before .before .before .before .before in
-    let fill-both = c .before .before .before .before .before .before .before .before .fill-both in
-    let file = now (start .args .file) in
-    let l = masks-length file (start .args .n) (start .pre .0) (fill-both .ensures .1 .0) in (
-      fill-both .ensures .0,
-      (
-        fill-both .ensures .1 .1,
-        c .before .before .write-trimmed .ensures ∙ ap (trimmedBy file)
-            (front-taken (fill-both .last .1 .0) _ l ∙ fill-both .ensures .1 .0),
-      ),
-    )
+returns c = c .before .before .before .before .before .trim-all .ensures
+
+array-borrow-prefix-words : tie.Need-array-borrow-prefix-words
+array-borrow-prefix-words c = room (c .before .before .before .before)
+
+slice-aggregate-trim-all-2 : tie.Need-slice-aggregate-trim-all-2
+slice-aggregate-trim-all-2 c = let s = c .before .before .before .before .before in sym (length-take-le (s .args .n) _ (room s))
+
+trim-all-requires-2 : tie.Need-trim-all-requires-2
+trim-all-requires-2 c κs = let s = c .before .before .before .before .before .before .before in let l = length-take-le (s .args .n) _ (room s) in (with-count (s .pre .0), sized s l, eighth s l, s .pre .2)
+
+same-length-3 : tie.Need-same-length-3
+same-length-3 c = search needs
+
+same-length-4 : tie.Need-same-length-4
+same-length-4 c = search needs
+
+returns-2 : tie.Need-returns-2
+returns-2 c = c .before .before .before .before .before .trim-all2 .ensures
 
 pub trim-buffers-spec : {M : Type 1} → statement M
 trim-buffers-spec =
     tie.close
     (tie.spec
-    array-borrow-prefix-words
-    slice-aggregate-fill-both
-    fill-both-requires
-    array-share-prefix-words
-    slice-aggregate-write-trimmed
-    write-trimmed-requires
+    array-borrow-prefix-short
+    slice-aggregate-trim-all
+    trim-all-requires
     same-length
     same-length-2
-    returns)
+    returns
+    array-borrow-prefix-words
+    slice-aggregate-trim-all-2
+    trim-all-requires-2
+    same-length-3
+    same-length-4
+    returns-2)

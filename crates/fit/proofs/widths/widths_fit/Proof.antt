@@ -1,181 +1,101 @@
--- `fit::widths::widths_fit` meets its contract: each kind has its line in the definition.
+-- `fit::widths::widths_fit` meets its contract: each test leaves the kinds of one width rule.
 -- Assumes nothing.
+use mathlib.Core.Path.{_≡_, sym, ap, _∙_}
+use mathlib.Core.Bool.{Bool, true, false, cond}
+use mathlib.Core.List.{List, [], _∷_}
+use Prim.Native.Nat.{_+_}
+use native.Mathlib.Omega.{arith}
+use borrow.Author.Needs.{needs}
+use borrow.Author.Tests.{ne-eqb, lt-ltb, le-ltb}
+use lib.Dec.{ltb}
+use Rattle.netlist.specs.Kinds.{kindOf, widthRules}
+use Rattle.netlist.specs.Rules.{Rule, equal, testAll}
+use Rattle.netlist.proofs.KindLaws.{no-width-rule, one-width-rule, two-operands}
 use Rattle.fit.proofs.widths.widths_fit.Statement.{statement}
 use Rattle.fit.proofs.widths.widths_fit.Tie as tie
 
-enum-told : tie.Need-enum-told
-enum-told c = c .match .keys1
+-- the rules of a start are rs
+Rules : tie.Start → List Rule → Type 0
+Rules s rs = testAll rs ≡ testAll (widthRules (kindOf (s .args .code) (s .args .fields)) (s .args .w) (s .args .wa) (s .args .wb) (s .args .wc))
 
-enum-told-2 : tie.Need-enum-told-2
-enum-told-2 c = c .match .keys2
-
-enum-told-3 : tie.Need-enum-told-3
-enum-told-3 c = c .match .keys3
-
-one-equal-requires : tie.Need-one-equal-requires
-one-equal-requires c κs = tt
-
-enum-told-4 : tie.Need-enum-told-4
-enum-told-4 c = c .match .keys4
-
-one-equal-requires-2 : tie.Need-one-equal-requires-2
-one-equal-requires-2 c κs = tt
-
-enum-known-kind : tie.Need-enum-known-kind
-enum-known-kind c = c .match .keys5
-
-sum-at-most-requires : tie.Need-sum-at-most-requires
-sum-at-most-requires c κs = tt
-
-enum-told-5 : tie.Need-enum-told-5
-enum-told-5 c = c .match .keys6
-
-sum-equal-requires : tie.Need-sum-equal-requires
-sum-equal-requires c κs = tt
-
-enum-told-6 : tie.Need-enum-told-6
-enum-told-6 c = c .match .keys7
-
-both-equal-requires : tie.Need-both-equal-requires
-both-equal-requires c κs = tt
-
-enum-told-7 : tie.Need-enum-told-7
-enum-told-7 c = c .match .keys8
-
-both-equal-requires-2 : tie.Need-both-equal-requires-2
-both-equal-requires-2 c κs = tt
-
-enum-told-8 : tie.Need-enum-told-8
-enum-told-8 c = c .match .keys9
-
-both-equal-requires-3 : tie.Need-both-equal-requires-3
-both-equal-requires-3 c κs = tt
-
-enum-told-9 : tie.Need-enum-told-9
-enum-told-9 c = c .match .keys10
-
-three-equal-requires : tie.Need-three-equal-requires
-three-equal-requires c κs = tt
-
-enum-told-10 : tie.Need-enum-told-10
-enum-told-10 c = c .match .keys11
-
-both-equal-requires-4 : tie.Need-both-equal-requires-4
-both-equal-requires-4 c κs = tt
-
-enum-told-11 : tie.Need-enum-told-11
-enum-told-11 c = c .match .keys12
-
-both-equal-requires-5 : tie.Need-both-equal-requires-5
-both-equal-requires-5 c κs = tt
-
-enum-told-12 : tie.Need-enum-told-12
-enum-told-12 c = c .match .keys13
-
-both-equal-requires-6 : tie.Need-both-equal-requires-6
-both-equal-requires-6 c κs = tt
-
-enum-told-13 : tie.Need-enum-told-13
-enum-told-13 c = c .match .keys14
-
-both-equal-requires-7 : tie.Need-both-equal-requires-7
-both-equal-requires-7 c κs = tt
-
-enum-told-14 : tie.Need-enum-told-14
-enum-told-14 c = c .match .keys15
-
-both-equal-requires-8 : tie.Need-both-equal-requires-8
-both-equal-requires-8 c κs = tt
+-- from 6 on, but for the mux, the number tells one of two rules
+pair-rules : (c : tie.Else5) (t : Bool) → ltb (c .before .before .before .before .before .args .code) 13 ≡ t → let s = c .before .before .before .before .before in Rules s (cond t (equal (s .args .wa) (s .args .w) ∷ equal (s .args .wb) (s .args .w) ∷ []) (equal (s .args .wa) (s .args .wb) ∷ equal (s .args .w) 1 ∷ []))
+unfolding Rules
+pair-rules c t e =
+    let s = c .before .before .before .before .before in
+    let a = s .args in
+    let same = equal (a .wa) (a .w) ∷ equal (a .wb) (a .w) ∷ [] in
+    let compared = equal (a .wa) (a .wb) ∷ equal (a .w) 1 ∷ [] in
+    let not-extract = c .before .before .if3 .left in
+    let from-4 = c .before .before .before .if2 .left in
+    let pair = two-operands (a .code) (a .fields) (omega arith) (s .pre) (c .if5 .left) in
+    ap testAll
+    (sym
+    (pair .widths (a .w) (a .wa) (a .wb) (a .wc)
+    ∙ ap (λ (b : Bool). cond b (equal (a .wa + a .wb) (a .w) ∷ []) (cond (ltb (a .code) 13) same compared)) (ne-eqb (a .code) 5 (c .before .if4 .left))
+    ∙ ap (λ (b : Bool). cond b same compared) e))
 
 returns : tie.Need-returns
-returns c = rw (c .enum-told .given .1)
+returns c = let s = c .before .args in ap testAll (sym (no-width-rule (s .code) (s .fields) (c .if1 .taken) (s .w) (s .wa) (s .wb) (s .wc)))
+
+one-equal-requires : tie.Need-one-equal-requires
+one-equal-requires c κs = search needs
 
 returns-2 : tie.Need-returns-2
-returns-2 c = rw (c .enum-told2 .given .1)
+returns-2 c =
+    let s = c .before .before .before .args in
+    c .one-equal .ensures
+    ∙ ap testAll (sym (one-width-rule (s .code) (s .fields) (c .before .before .if1 .left) (c .before .if2 .taken) (s .w) (s .wa) (s .wb) (s .wc)))
+
+sum-at-most-requires : tie.Need-sum-at-most-requires
+sum-at-most-requires c κs = search needs
 
 returns-3 : tie.Need-returns-3
-returns-3 c = rw (c .before .enum-told3 .given .1) (c .one-equal .ensures)
+unfolding kindOf
+returns-3 c = rw (c .before .if3 .taken) (c .sum-at-most .ensures)
+
+sum-equal-requires : tie.Need-sum-equal-requires
+sum-equal-requires c κs = search needs
 
 returns-4 : tie.Need-returns-4
-returns-4 c = rw (c .before .enum-told4 .given .1) (c .one-equal2 .ensures)
+unfolding kindOf
+returns-4 c = rw (c .before .if4 .taken) (c .sum-equal .ensures)
+
+three-equal-requires : tie.Need-three-equal-requires
+three-equal-requires c κs = search needs
 
 returns-5 : tie.Need-returns-5
-returns-5 c = rw (c .before .before .kind .given .1) (c .sum-at-most .ensures)
+unfolding kindOf
+returns-5 c = rw (c .before .if5 .taken) (c .three-equal .ensures)
+
+both-equal-requires : tie.Need-both-equal-requires
+both-equal-requires c κs = search needs
 
 returns-6 : tie.Need-returns-6
-returns-6 c = rw (c .before .enum-told5 .given .1) (c .sum-equal .ensures)
+unfolding Rules
+returns-6 c = c .both-equal .ensures ∙ pair-rules (c .before .before) true (lt-ltb _ _ (c .before .if6 .taken))
+
+both-equal-requires-2 : tie.Need-both-equal-requires-2
+both-equal-requires-2 c κs = search needs
 
 returns-7 : tie.Need-returns-7
-returns-7 c = rw (c .before .enum-told6 .given .1) (c .both-equal .ensures)
-
-returns-8 : tie.Need-returns-8
-returns-8 c = rw (c .before .enum-told7 .given .1) (c .both-equal2 .ensures)
-
-returns-9 : tie.Need-returns-9
-returns-9 c = rw (c .before .enum-told8 .given .1) (c .both-equal3 .ensures)
-
-returns-10 : tie.Need-returns-10
-returns-10 c = rw (c .before .enum-told9 .given .1) (c .three-equal .ensures)
-
-returns-11 : tie.Need-returns-11
-returns-11 c = rw (c .before .enum-told10 .given .1) (c .both-equal4 .ensures)
-
-returns-12 : tie.Need-returns-12
-returns-12 c = rw (c .before .enum-told11 .given .1) (c .both-equal5 .ensures)
-
-returns-13 : tie.Need-returns-13
-returns-13 c = rw (c .before .enum-told12 .given .1) (c .both-equal6 .ensures)
-
-returns-14 : tie.Need-returns-14
-returns-14 c = rw (c .before .enum-told13 .given .1) (c .both-equal7 .ensures)
-
-returns-15 : tie.Need-returns-15
-returns-15 c = rw (c .before .enum-told14 .given .1) (c .both-equal8 .ensures)
+unfolding Rules
+returns-7 c = c .both-equal2 .ensures ∙ pair-rules (c .before .before) false (le-ltb _ _ (c .before .if6 .left))
 
 pub widths-fit-spec : {M : Type 1} → statement M
 widths-fit-spec =
     tie.close
     (tie.spec
-    enum-told
-    enum-told-2
-    enum-told-3
-    one-equal-requires
-    enum-told-4
-    one-equal-requires-2
-    enum-known-kind
-    sum-at-most-requires
-    enum-told-5
-    sum-equal-requires
-    enum-told-6
-    both-equal-requires
-    enum-told-7
-    both-equal-requires-2
-    enum-told-8
-    both-equal-requires-3
-    enum-told-9
-    three-equal-requires
-    enum-told-10
-    both-equal-requires-4
-    enum-told-11
-    both-equal-requires-5
-    enum-told-12
-    both-equal-requires-6
-    enum-told-13
-    both-equal-requires-7
-    enum-told-14
-    both-equal-requires-8
     returns
+    one-equal-requires
     returns-2
+    sum-at-most-requires
     returns-3
+    sum-equal-requires
     returns-4
+    three-equal-requires
     returns-5
+    both-equal-requires
     returns-6
-    returns-7
-    returns-8
-    returns-9
-    returns-10
-    returns-11
-    returns-12
-    returns-13
-    returns-14
-    returns-15)
+    both-equal-requires-2
+    returns-7)
