@@ -99,7 +99,7 @@ def shift_chain():
 
 
 def unread_mux():
-    """The selector counts as felt, though nobody reads the mux."""
+    """The selector is cared for, though nobody reads the mux."""
     d = Design()
     selector = d.input(1)
     one = d.input(8)

@@ -149,7 +149,7 @@ def head(title, zoom, legend):
         lines.append('<g id="legend">')
         for x, y, sample, text in (
                 (10, 30, boxes(1, 1), "cared for"),
-                (10, 45, boxes(1, 0), "not cared for: no output feels it"),
+                (10, 45, boxes(1, 0), "not cared for: no output changes with it"),
                 (270, 30, "", "no box: beyond the signal's width"),
                 (270, 45, "", "on top: the number of the bit")):
             lines.append(f'<g transform="translate({x} {y})">{sample}'

@@ -16,12 +16,12 @@ int refused_width(const uint8_t *file, size_t length)
     return -1;
 }
 
-/* The bits that no output feels, or -1 when the mask list does not fit and
+/* The bits that are not cared for, or -1 when the mask list does not fit and
    -2 when the file itself is refused. */
-long unfelt_bits(const uint8_t *file, size_t length, uint8_t *masks,
+long uncared_bits(const uint8_t *file, size_t length, uint8_t *masks,
                  size_t masks_length);
 
-long unfelt_bits(const uint8_t *file, size_t length, uint8_t *masks,
+long uncared_bits(const uint8_t *file, size_t length, uint8_t *masks,
                  size_t masks_length)
 {
     uint64_t answer = pcn_masks(file, length, masks, masks_length);

@@ -114,11 +114,11 @@ static void keep_words(void)
     end(cut);
 }
 
-/* Only one part of the concat is asked for, so the other stays unfelt. */
+/* Only one part of the concat is asked for, so the other stays uncared for. */
 static void parts_of_a_word(void)
 {
     static const uint64_t carry[] = { 7, 7, 4, 0, 0x400, 0xffff };
-    static const uint64_t unfelt[] = { 0, 0, 0, 1, 1, 3 };
+    static const uint64_t uncared[] = { 0, 0, 0, 1, 1, 3 };
 
     begin("a sum in the high part of a word asks for the bits below its own");
     netlist_input(&net, 8);
@@ -136,7 +136,7 @@ static void parts_of_a_word(void)
     netlist_input(&net, 1);
     netlist_add(&net, KIND_CONCAT, 2, 2, 3, 0, 0);
     netlist_output(&net, 4, 1);
-    end(unfelt);
+    end(uncared);
 }
 
 void masks_shared(void)

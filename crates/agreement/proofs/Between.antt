@@ -16,7 +16,7 @@ use Rattle.netlist.specs.declared.record.Role.{Role}
 use Rattle.netlist.specs.declared.record.Role.the-variants.{Input, Register, Output, Gate}
 use Rattle.rules.specs.Sound.{Sound}
 use Rattle.rules.proofs.SoundLaws.{register-loads}
-use Rattle.signal.specs.Asks.{caredOf, Granted}
+use Rattle.signal.specs.Asks.{demandOf, Granted}
 use Rattle.signal.specs.declared.Ask.{Ask}
 use Rattle.signal.proofs.AskedOperands.{register-asks}
 use Rattle.care.specs.Least.{Closed, maskAt}
@@ -28,7 +28,7 @@ use Rattle.agreement.proofs.OneCycle.{Close}
 use Rattle.agreement.proofs.RunLaws.{input-word}
 
 pub record Tied (d : Design) (masks board board′ : List ℕ) : Type 0 where
-  pub each : (i a k : ℕ) → i < d .count → roleAt d i ≡ Register a k → Agree (caredOf (d .at i) (maskAt masks i)) (wordAt board i) (wordAt board′ i)
+  pub each : (i a k : ℕ) → i < d .count → roleAt d i ≡ Register a k → Agree (demandOf (d .at i) (maskAt masks i)) (wordAt board i) (wordAt board′ i)
 
 -- "equal cared bits at each register" are more than it takes
 pub tied-first : (d : Design) (masks board board′ : List ℕ)
@@ -38,7 +38,7 @@ tied-first d masks board board′ registers =
 
 module _ (d e : Design) (masks : List ℕ) (f : Follows d e (maskAt masks)) where
   abbrev D : ℕ → ℕ
-  D i = caredOf (d .at i) (maskAt masks i)
+  D i = demandOf (d .at i) (maskAt masks i)
 
   in-second : (i : ℕ) → i < d .count → i < e .count
   in-second i h = let q = f .count in omega arith

@@ -15,11 +15,11 @@ use Rattle.rules.specs.Sound.{Sound, SameDesign}
 use Rattle.rules.specs.declared.Checked.the-variants.{Accepted}
 use Rattle.rules.proofs.SoundLaws.{operands-below}
 use Rattle.signal.specs.Results.{resultAt}
-use Rattle.signal.specs.Asks.{caredOf}
+use Rattle.signal.specs.Asks.{demandOf}
 use Rattle.care.specs.Least.{maskAt}
 use Rattle.trim.specs.Trimmed.{trimmedBy, trimDesign}
 use Rattle.trim.proofs.Trimmed.{holds-cut}
-use Rattle.agreement.specs.Claim.{Version, same, trimmed, fileOf}
+use Rattle.agreement.specs.Claim.{SecondFile, same, trimmed, fileOf}
 use native.Mathlib.Omega.{arith}
 
 pub record Follows (d e : Design) (M : ℕ → ℕ) : Type 0 where
@@ -32,7 +32,7 @@ pub follows-self : (d : Design) (M : ℕ → ℕ) → Follows d d M
 follows-self d M = record { count = refl; kind = λ i h. refl; width = λ i h. refl; keep = λ i h. agree-refl (M i) (d .at i .keep) }
 
 -- the keep word, and the keep word cut by a mask, agree on the mask
-cut-agrees : (r : Record) (m : ℕ) → Agree m (r .keep) (caredOf r m)
+cut-agrees : (r : Record) (m : ℕ) → Agree m (r .keep) (demandOf r m)
 cut-agrees r m =
     agree-by-bits (λ i e. let b = bit-and m (r .keep) i in let l = bit-lt (r .keep) i in omega arith)
 
@@ -47,8 +47,8 @@ follows-cut d e masks s =
     }
 
 -- either file of the second run
-pub follows : (version : Version) (file masks : List ℕ) (n : ℕ) → checkOf file ≡ Accepted n
-    → Follows (designOf file) (designOf (fileOf version file masks)) (maskAt masks)
+pub follows : (which : SecondFile) (file masks : List ℕ) (n : ℕ) → checkOf file ≡ Accepted n
+    → Follows (designOf file) (designOf (fileOf which file masks)) (maskAt masks)
 follows same file masks n e = follows-self (designOf file) (maskAt masks)
 follows trimmed file masks n e = follows-cut (designOf file) (designOf (trimmedBy file masks)) masks (holds-cut file n e masks)
 

@@ -15,7 +15,7 @@ use Rattle.netlist.specs.Kinds.{isHeld}
 use Rattle.netlist.specs.Layout.{Design, roleAt}
 use Rattle.rules.specs.Sound.{Sound}
 use Rattle.signal.specs.Results.{resultAt}
-use Rattle.signal.specs.Asks.{caredOf, asked, Granted}
+use Rattle.signal.specs.Asks.{demandOf, asked, Granted}
 use Rattle.signal.specs.AskLists.{Named}
 use Rattle.signal.specs.declared.Ask.{Ask}
 use Rattle.signal.proofs.AskedOperands.{asked-below}
@@ -43,7 +43,7 @@ all-met d M i x x′ below (a ∷ asks) n g =
 module _ (d e : Design) (sd : Sound d) (se : Sound e) (masks : List ℕ) (seed : ℕ → ℕ) (closed : Closed d seed (maskAt masks))
     (f : Follows d e (maskAt masks)) (change : ℕ → ℕ → ℕ) (g : Gentle d masks change) (board board′ : List ℕ)
     (size : length board ≡ d .count) (size′ : length board′ ≡ e .count)
-    (held : (i : ℕ) → i < d .count → isHeld (roleAt d i) ≡ true → Agree (caredOf (d .at i) (maskAt masks i)) (wordAt board i) (wordAt board′ i)) where
+    (held : (i : ℕ) → i < d .count → isHeld (roleAt d i) ≡ true → Agree (demandOf (d .at i) (maskAt masks i)) (wordAt board i) (wordAt board′ i)) where
   abbrev values : List ℕ
   values = valuesOf d unchanged board
 
@@ -77,7 +77,7 @@ module _ (d e : Design) (sd : Sound d) (se : Sound e) (masks : List ℕ) (seed :
         let c = below j l in
         record { agree = rw (other, other′) (c .agree); first = rw other (c .first); second = rw other′ (c .second) }
 
-    results : Agree (caredOf (d .at i) m) (resultAt (d .at) (wordAt x) i) (resultAt (d .at) (wordAt x′) i)
+    results : Agree (demandOf (d .at i) m) (resultAt (d .at) (wordAt x) i) (resultAt (d .at) (wordAt x′) i)
     results =
         result-agree d sd i h (wordAt x) (wordAt x′) m (λ q. rw (own, own′) (held i h q))
         (λ q. all-met d (maskAt masks) i x x′ found (asked (d .at) i m) (asked-below d sd i h q m) (closed .granted i h))

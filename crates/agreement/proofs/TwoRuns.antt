@@ -1,4 +1,4 @@
--- The claim about two whole runs: for any masks that are closed and lie within the widths, and so for the masks of the design.
+-- The claim about two whole runs: for any masks that are closed above the outputs, and so for the masks of the design.
 -- Assumes nothing.
 use mathlib.Core.Path.{_≡_, refl, sym, ap, subst, _∙_}
 use mathlib.Core.Bool.{cond}
@@ -125,15 +125,15 @@ outputs-equal d masks values values′ i seeded q c =
 pub closed-runs-agree : (file masks : List ℕ) (n : ℕ) → checkOf file ≡ Accepted n → Closed (designOf file) (outputSeed (designOf file)) (maskAt masks)
     → RunsAgree file masks
 unfolding changeIn
-closed-runs-agree file masks n e closed version manner board board′ calls calls′ supposed =
+closed-runs-agree file masks n e closed which manner board board′ calls calls′ supposed =
     let d = designOf file in
     let first = runOf (changeIn plain d masks) file board calls in
-    let second = runOf (changeIn manner d masks) (fileOf version file masks) board′ calls′ in
+    let second = runOf (changeIn manner d masks) (fileOf which file masks) board′ calls′ in
     let all =
-    chains-close file (fileOf version file masks) masks (accepted file n e .sound) (outputSeed d) closed (follows version file masks n e)
+    chains-close file (fileOf which file masks) masks (accepted file n e .sound) (outputSeed d) closed (follows which file masks n e)
     first second board board′
     (chain-of (λ change. change ≡ unchanged) file (changeIn plain d masks) (λ j. refl) 0 board calls)
-    (chain-of (Gentle d masks) (fileOf version file masks) (changeIn manner d masks) (gentle manner d masks) 0 board′ calls′)
+    (chain-of (Gentle d masks) (fileOf which file masks) (changeIn manner d masks) (gentle manner d masks) 0 board′ calls′)
     (supposed .kinds) (tied-first d masks board board′ (supposed .registers)) (supposed .inputs) in
     record {
       outputs = λ j i l h q. outputs-equal d masks _ _ i (closed .seeded i h) q (all j i l h);

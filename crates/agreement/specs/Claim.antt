@@ -16,11 +16,11 @@ use Rattle.agreement.specs.Runs.{Call, Step, runOf, kindsOf, cyclesOf, c
 use Rattle.agreement.specs.Scrambled.{Manner, plain, changeIn}
 
 -- The second run "is of the same file or of the one that trim writes for it".
-pub data Version : Type 0 where
-  same : Version
-  trimmed : Version
+pub data SecondFile : Type 0 where
+  same : SecondFile
+  trimmed : SecondFile
 
-abbrev pub fileOf : Version → List ℕ → List ℕ → List ℕ
+abbrev pub fileOf : SecondFile → List ℕ → List ℕ → List ℕ
 fileOf same file masks = file
 fileOf trimmed file masks = trimmedBy file masks
 
@@ -48,9 +48,9 @@ pub record Agreeing (d : Design) (masks : List ℕ) (first second : List Step) :
 abbrev pub RunsAgree : List ℕ → List ℕ → Type 0
 RunsAgree file masks =
     let d = designOf file in
-    (version : Version) (manner : Manner) (board board′ : List ℕ) (calls calls′ : List Call)
+    (which : SecondFile) (manner : Manner) (board board′ : List ℕ) (calls calls′ : List Call)
     → let first = runOf (changeIn plain d masks) file board calls in
-    let second = runOf (changeIn manner d masks) (fileOf version file masks) board′ calls′ in
+    let second = runOf (changeIn manner d masks) (fileOf which file masks) board′ calls′ in
     Supposed d masks board board′ first second → Agreeing d masks first second
 
 -- Demand 3: "An accepted design is a file that check accepts", and the masks are its own.

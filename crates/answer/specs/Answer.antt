@@ -1,4 +1,4 @@
--- The 64-bit number that each call of the desktop gives.
+-- The 64-bit number that each call gives, for each case of an answer.
 -- Assumes nothing.
 use Prim.Native.Nat.{ℕ, _+_, _*_, _^_}
 use Rattle.netlist.specs.Refusals.{numberOf}
@@ -7,6 +7,8 @@ use Rattle.rules.specs.declared.Checked.the-variants.{Accepted, Refused as refu
 use Rattle.care.specs.declared.Tally.{Tally}
 use Rattle.care.specs.declared.Tallied.{Tallied}
 use Rattle.care.specs.declared.Tallied.the-variants.{Done, Refused}
+use Rattle.clock.specs.declared.Clocked.{Clocked}
+use Rattle.clock.specs.declared.Clocked.the-variants.{Done as clocked, Refused as clockRefused}
 
 -- "when refused, 2^63 + 2^32 × the refusal number + the record"
 abbrev pub refusedAnswer : ℕ → ℕ → ℕ
@@ -24,3 +26,8 @@ talliedAnswer (Refused r i) = refusedAnswer (numberOf r) i
 unfoldable pub checkAnswer : Checked → ℕ
 checkAnswer (Accepted n) = n
 checkAnswer (refused r i) = refusedAnswer (numberOf r) i
+
+-- 01 names no number for an accepted start or cycle, which have no other answer: 0.
+unfoldable pub clockedAnswer : Clocked → ℕ
+clockedAnswer clocked = 0
+clockedAnswer (clockRefused r i) = refusedAnswer (numberOf r) i

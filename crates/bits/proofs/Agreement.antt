@@ -3,13 +3,13 @@
 use mathlib.Core.Path.{_≡_, refl, sym, ap, ap₂, _∙_}
 use mathlib.Core.Logic.{_⊎_, inl, inr}
 use Prim.Native.Nat.{ℕ, _+_, _*_, _/_, _%_, _^_, _≤_, _<_, min, max}
-use native.Mathlib.Nat.{add-comm, le-trans, le-of-eq, le-of-suc-le-suc, mod-lt, mod-eq-of-lt, min-zero, min-eq-left, zero-max}
+use native.Mathlib.Nat.{add-comm, le-trans, le-of-eq, le-of-suc-le-suc, mod-lt, mod-eq-of-lt, min-zero, min-eq-left}
 use lib.Bits.{bitAnd, bitOr, bitXor, differ, and-zero-r, and-mask, and-block}
 use lib.Pow.{pow-pos, split}
 use Rattle.bits.specs.Masks.{bit, Within, Agree}
 use Rattle.bits.specs.Words.{lowMask, cut, up, down}
 use Rattle.bits.proofs.Digits.{bit-lt, bit-cases, bits-ext, bit-and, bit-or, bit-xor, bit-down, bit-cut, bit-up, one-below}
-use Rattle.bits.proofs.Order.{within-one, meet-left, meet-right}
+use Rattle.bits.proofs.Order.{within-one}
 use Rattle.bits.proofs.Shifts.{up-exact}
 
 -- ---- agreement, bit by bit
@@ -55,23 +55,11 @@ agree-zero x y = record { equal = and-zero-r x ∙ sym (and-zero-r y) }
 pub agree-within : {m n x y : ℕ} → Within n m → Agree m x y → Agree n x y
 agree-within w h = agree-by-bits (λ i e. agree-bit h i (within-one w i e))
 
-pub agree-join : {m n x y : ℕ} → Agree m x y → Agree n x y → Agree (bitOr m n) x y
-agree-join {m} {n} {x} {y} h g = agree-by-bits (λ i e. cases i e (bit-cases m i))
-  where
-    cases : (i : ℕ) → bit (bitOr m n) i ≡ 1 → (bit m i ≡ 0) ⊎ (bit m i ≡ 1) → bit x i ≡ bit y i
-    cases i e (inl z) = agree-bit g i (sym (zero-max (bit n i)) ∙ ap (λ (d : ℕ). max d (bit n i)) (sym z) ∙ sym (bit-or m n i) ∙ e)
-    cases i e (inr o) = agree-bit h i o
-
 -- ---- operations on bits
 
 -- what a mask k lets through agrees on m where the words agree on the part of m that k lets through
 pub agree-keep : {m x y : ℕ} (k : ℕ) → Agree (bitAnd m k) x y → Agree m (bitAnd x k) (bitAnd y k)
 agree-keep {m} {x} {y} k h = agree-by-bits (λ i e. masked x y k i (λ o. agree-bit h i (bit-kept m k i o ∙ e)))
-
-pub keep-agree : (m k x y : ℕ) → Agree m (bitAnd x k) (bitAnd y k) → Agree (bitAnd m k) x y
-keep-agree m k x y h = agree-by-bits (λ i e.
-    let o = within-one (meet-right m k) i e in
-    sym (bit-kept x k i o) ∙ agree-bit h i (within-one (meet-left m k) i e) ∙ bit-kept y k i o)
 
 -- an operation that works bit by bit
 pub agree-op : {m a b c d : ℕ} (op f : ℕ → ℕ → ℕ) → ((x y i : ℕ) → bit (op x y) i ≡ f (bit x i) (bit y i))

@@ -1,6 +1,6 @@
 -- Words congruent modulo 2^h: the low bits of sums, differences and products need only the operands' low bits.
 -- Assumes nothing.
-use mathlib.Core.Path.{_≡_, refl, sym, ap, ap₂, _∙_}
+use mathlib.Core.Path.{_≡_, sym, ap, ap₂, _∙_}
 use Prim.Native.Nat.{ℕ, _+_, _-_, _*_, _%_, _^_, _≤_, _<_}
 use native.Mathlib.Nat.{lt-of-lt-of-le, add-mod, mod-mod, mod-add-mod}
 use lib.Pow.{pow-mono}
@@ -15,9 +15,6 @@ use Rattle.bits.proofs.Shifts.{length-le}
 -- The words x and y have the same h lowest bits.
 pub record Cong (h x y : ℕ) : Type 0 where
   pub remainder : x % 2 ^ h ≡ y % 2 ^ h
-
-pub cong-refl : (h x : ℕ) → Cong h x x
-cong-refl h x = record { remainder = refl }
 
 pub agree-cong : {x y : ℕ} (h : ℕ) → Agree (lowMask h) x y → Cong h x y
 agree-cong h a = record { remainder = agree-low h a }
@@ -58,15 +55,6 @@ difference-lows x y h w l =
   where
     d : ℕ
     d = differenceAt w x y
-
-pub cong-sum : {h x x′ y y′ : ℕ} (w : ℕ) → h ≤ w → Cong h x x′ → Cong h y y′ → Cong h (sumAt w x y) (sumAt w x′ y′)
-cong-sum = cong-op sumAt sum-lows
-
-pub cong-difference : {h x x′ y y′ : ℕ} (w : ℕ) → h ≤ w → Cong h x x′ → Cong h y y′ → Cong h (differenceAt w x y) (differenceAt w x′ y′)
-cong-difference = cong-op differenceAt difference-lows
-
-pub cong-product : {h x x′ y y′ : ℕ} (w : ℕ) → h ≤ w → Cong h x x′ → Cong h y y′ → Cong h (productAt w x y) (productAt w x′ y′)
-cong-product = cong-op productAt product-lows
 
 pub agree-sum : {m x x′ y y′ : ℕ} (w : ℕ) → m < 2 ^ w → w ≤ 64
     → Agree (lowMask (bitLength m)) x x′ → Agree (lowMask (bitLength m)) y y′ → Agree m (sumAt w x y) (sumAt w x′ y′)

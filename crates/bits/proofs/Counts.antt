@@ -4,7 +4,6 @@ use mathlib.Core.Path.{_≡_, refl, sym, ap, _∙_, subst}
 use Prim.Native.Nat.{ℕ, zero, suc, _+_, _/_, _%_, _^_, _≤_, _<_, zero-le, suc-le-suc}
 use native.Mathlib.Nat.{zero-add, suc-add, le-of-suc-le-suc, not-suc-le-zero, zero-lt-suc, pow-suc, div-lt-iff-lt-mul}
 use native.Mathlib.Numerals.{add-one}
-use native.Mathlib.Omega.{arith}
 use lib.Arith.{lt-one}
 use lib.Count.{ones, onesIn, ones-step, leadingZeros}
 use lib.Pow.{shr-lt}
@@ -28,9 +27,6 @@ unfolding lengthIn leadingZeros
 length-leading zero x = refl
 length-leading (suc d) zero = zero-add (suc d)
 length-leading (suc d) (suc x) = suc-add (lengthIn d (suc x / 2)) (leadingZeros d (suc x / 2)) ∙ ap suc (length-leading d (suc x / 2))
-
-pub lengthIn-le : (d x : ℕ) → lengthIn d x ≤ d
-lengthIn-le d x = let e = length-leading d x in omega arith
 
 -- the length holds the number
 pub lengthIn-holds : (d x : ℕ) → x < 2 ^ d → x < 2 ^ lengthIn d x

@@ -3,12 +3,12 @@
 use mathlib.Core.Path.{_≡_, refl, sym, ap, ap₂, _∙_, subst}
 use mathlib.Core.Logic.{_⊎_, inl, inr}
 use Prim.Native.Nat.{ℕ, zero, suc, _+_, _-_, _*_, _/_, _%_, _^_, _≤_, _<_, min, max, suc-le-suc}
-use native.Mathlib.Nat.{le-add-right, le-add-left, le-of-suc-le, le-dest, lt-of-not-le, lt-of-le-of-lt, lt-of-lt-of-le, le-of-suc-le-suc, zero-lt-suc, not-suc-le-zero, mul-assoc, div-one, div-add-mod', div-eq-of-lt, mod-lt, min-le-left, max-le}
-use native.Mathlib.Numerals.{one-add, add-one}
+use native.Mathlib.Nat.{le-add-right, le-add-left, le-of-suc-le, le-dest, lt-of-not-le, lt-of-le-of-lt, lt-of-lt-of-le, le-of-suc-le-suc, zero-lt-suc, not-suc-le-zero, div-one, div-add-mod', div-eq-of-lt, mod-lt, min-le-left, max-le}
+use native.Mathlib.Numerals.{one-add}
 use native.Mathlib.Omega.{arith}
 use lib.Arith.{half-le, le-zero, lt-one, digits-mod}
-use lib.Bits.{bitAnd, bitOr, bitXor, differ, and-step, or-step, xor-step, and-shr, or-shr, xor-shr, shifted-even}
-use lib.Pow.{pow-pos, pow-mono, pow-add, shl-shr, shr-shr, field, mod-mod-pow, high, low, ones-lt, ones-split}
+use lib.Bits.{bitAnd, bitOr, bitXor, differ, and-step, or-step, xor-step, and-shr, or-shr, xor-shr}
+use lib.Pow.{pow-mono, shl-shr, shr-shr, field, mod-mod-pow, high, low, ones-lt, ones-split}
 use Rattle.bits.specs.Masks.{bit}
 
 pub bit-lt : (x i : ℕ) → bit x i < 2
@@ -95,21 +95,10 @@ bit-cut x w i h =
     below (λ (n : ℕ). bit (x % 2 ^ n) i ≡ bit x i) h
     (λ j. ap (λ (n : ℕ). n % 2) (field x (j + 1) i) ∙ mod-mod-pow (x / 2 ^ i) j 1)
 
-pub bit-cut-beyond : (x w i : ℕ) → w ≤ i → bit (x % 2 ^ w) i ≡ 0
-bit-cut-beyond x w i = bit-beyond w i (mod-lt x (pow-pos w))
-
 -- ---- a word moved up
 
 pub bit-up : (x k i : ℕ) → bit (x * 2 ^ k) (k + i) ≡ bit x i
 bit-up x k i = sym (bit-down (x * 2 ^ k) k i) ∙ ap (λ (n : ℕ). bit n i) (shl-shr x k)
-
-pub bit-up-below : (x k i : ℕ) → i < k → bit (x * 2 ^ k) i ≡ 0
-bit-up-below x k i h =
-    below (λ (n : ℕ). bit (x * 2 ^ n) i ≡ 0) h
-    (λ j. ap (λ (n : ℕ). bit (x * n) i) (pow-add 2 (j + 1) i)
-    ∙ ap (λ (n : ℕ). bit n i) (sym (mul-assoc x (2 ^ (j + 1)) (2 ^ i)))
-    ∙ ap (λ (n : ℕ). n % 2) (shl-shr (x * 2 ^ (j + 1)) i ∙ ap (λ (n : ℕ). x * 2 ^ n) (add-one j))
-    ∙ shifted-even x j)
 
 -- ---- a low mask
 
@@ -119,6 +108,3 @@ bit-low n i h =
     (λ j. ap (λ (m : ℕ). bit m i) (ones-split (j + 1) i)
     ∙ ap (λ (m : ℕ). m % 2) (high (2 ^ (j + 1) - 1) i (ones-lt i) ∙ ones-split j 1)
     ∙ low (2 ^ j - 1) 1 (ones-lt 1))
-
-pub bit-low-beyond : (n i : ℕ) → n ≤ i → bit (2 ^ n - 1) i ≡ 0
-bit-low-beyond n i = bit-beyond n i (ones-lt n)

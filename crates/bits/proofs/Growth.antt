@@ -1,16 +1,14 @@
 -- Counts of ones in words of 64 bits: a larger mask has more, and no word has more than its width.
 -- Assumes nothing.
 use mathlib.Core.Path.{_≡_, sym, ap₂, _∙_, subst₂}
-use mathlib.Core.Logic.{_≢_}
 use Prim.Native.Nat.{ℕ, zero, suc, _+_, _*_, _%_, _^_, _≤_, _<_, zero-le}
-use native.Mathlib.Nat.{add-le-add, lt-of-lt-of-le, lt-of-le-of-lt, div-add-mod', div-le-self}
+use native.Mathlib.Nat.{add-le-add, lt-of-le-of-lt, div-add-mod', div-le-self}
 use native.Mathlib.Omega.{arith}
-use lib.Arith.{lt-one, lt-of-le-ne}
-use lib.Count.{onesIn, ones-ones}
-use lib.Pow.{pow-mono, ones-lt}
+use lib.Arith.{lt-one}
+use lib.Count.{onesIn}
 use Rattle.bits.specs.Masks.{Within}
-use Rattle.bits.specs.Words.{lowMask, countOnes}
-use Rattle.bits.proofs.Counts.{half-lt, onesIn-ones}
+use Rattle.bits.specs.Words.{countOnes}
+use Rattle.bits.proofs.Counts.{half-lt}
 use Rattle.bits.proofs.Digits.{bit-zero}
 use Rattle.bits.proofs.Order.{within-bit, within-lt}
 use Rattle.bits.proofs.Shifts.{down-mono}
@@ -50,12 +48,5 @@ countOnes-mono = onesIn-mono 64
 pub growth : {a b : ℕ} → Within a b → b < 2 ^ 64 → countOnes a ≡ countOnes b → a ≡ b
 growth = onesIn-growth 64
 
--- another mask: more ones
-pub growth-strict : {a b : ℕ} → Within a b → b < 2 ^ 64 → a ≢ b → countOnes a < countOnes b
-growth-strict h g ne = lt-of-le-ne (countOnes-mono h) (λ e. ne (growth h g e))
-
 pub countOnes-le : {x : ℕ} (w : ℕ) → x < 2 ^ w → countOnes x ≤ w
 countOnes-le = onesIn-le 64
-
-pub countOnes-low : (w : ℕ) → w ≤ 64 → countOnes (lowMask w) ≡ w
-countOnes-low w h = onesIn-ones 64 (lowMask w) (lt-of-lt-of-le (ones-lt w) (pow-mono h)) ∙ ones-ones w

@@ -53,13 +53,6 @@ join-right a b = subst (λ (n : ℕ). Within b n) (or-comm b a) (join-left b a)
 pub join-least : {a b c : ℕ} → Within a c → Within b c → Within (bitOr a b) c
 join-least {a} {b} h g = within-by-bits (λ i. le-trans (le-of-eq (bit-or a b i)) (max-le (within-bit h i) (within-bit g i)))
 
-pub join-mono : {a b c d : ℕ} → Within a c → Within b d → Within (bitOr a b) (bitOr c d)
-join-mono {c = c} {d = d} h g = join-least (within-trans h (join-left c d)) (within-trans g (join-right c d))
-
--- joining a mask that lies within changes nothing
-pub join-within : {a b : ℕ} → Within a b → bitOr b a ≡ b
-join-within {a} {b} h = within-antisym (join-least (within-refl b) h) (join-left b a)
-
 -- ---- meets
 
 pub meet-left : (a b : ℕ) → Within (bitAnd a b) a

@@ -9,12 +9,9 @@ use Rattle.bits.specs.Masks.{Within}
 use Rattle.bits.specs.Words.{lowMask, cut, up, down, lengthIn, bitLength}
 use Rattle.bits.proofs.Counts.{lengthIn-holds, lengthIn-least}
 use Rattle.bits.proofs.Digits.{bit-down}
-use Rattle.bits.proofs.Order.{within-bit, within-by-bits, within-lt, meet-left, meet-mono, within-low}
+use Rattle.bits.proofs.Order.{within-bit, within-by-bits, within-lt, meet-mono}
 
 -- ---- cut to a width
-
-pub cut-within : (w x : ℕ) → Within (cut w x) x
-cut-within w x = subst (λ (n : ℕ). Within n x) (and-mask x w) (meet-left x (lowMask w))
 
 pub cut-mono : {a b : ℕ} (w : ℕ) → Within a b → Within (cut w a) (cut w b)
 cut-mono {a} {b} w h = subst₂ Within (and-mask a w) (and-mask b w) (meet-mono (lowMask w) h)
@@ -56,9 +53,6 @@ length-zero = refl
 
 pub length-le : {d : ℕ} (w : ℕ) → d < 2 ^ w → bitLength d ≤ w
 length-le {d} = lengthIn-least 64 d
-
-pub length-low : {d : ℕ} → d < 2 ^ 64 → Within d (lowMask (bitLength d))
-length-low {d} h = within-low (bitLength d) (lengthIn-holds 64 d h)
 
 pub length-mono : {a b : ℕ} → Within a b → b < 2 ^ 64 → bitLength a ≤ bitLength b
 length-mono {b = b} h g = length-le (bitLength b) (within-lt (bitLength b) h (lengthIn-holds 64 b g))

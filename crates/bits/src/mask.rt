@@ -1,5 +1,5 @@
 // Masks: the low bits of a word, a word cut to a width, its ones and its length.
-// A caller of low_mask or low_entry keeps n at 64 or below; the others ask nothing.
+// A caller of low_mask or low_entry keeps n at 64 or below, and lends low_entry the table; the others ask nothing.
 ghost use mathlib.Core.Path.{_≡_};
 ghost use Prim.Native.Nat.{_≤_};
 ghost use Rattle.bits.specs.Words.{lowMask, lowMasks, cut, countOnes, bitLength};

@@ -16,8 +16,8 @@ use Rattle.netlist.specs.declared.record.Role.{Role}
 use Rattle.signal.specs.Asks.{asked, Granted}
 use Rattle.signal.specs.declared.Ask.{Ask}
 
--- A family gives each signal a mask. A family M is closed if it has every bit of a seed, which is what it has to begin with, and every bit
--- that a record asks for under M.
+-- "M(x) is the mask of signal x": a family gives each signal a mask. A family M is closed if it has every bit of a seed, which is what it has
+-- to begin with, and every bit that a record asks for under M.
 pub record Closed (d : Design) (seed M : ℕ → ℕ) : Type 0 where
   pub seeded : (i : ℕ) → i < d .count → Within (seed i) (M i)
   pub granted : (i : ℕ) → i < d .count → Granted (asked (d .at) i (M i)) M

@@ -1,4 +1,4 @@
--- Which bits of each signal an output feels: the smallest masks, their tally, and the operation `masks`.
+-- The care masks: the smallest under the care rules, their tally, and the operation `masks`.
 -- Assumes nothing.
 pub mod Least
 pub mod Call

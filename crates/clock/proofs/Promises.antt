@@ -3,7 +3,7 @@
 use mathlib.Core.Path.{_≡_, refl, sym, ap, subst, _∙_}
 use mathlib.Core.Bool.{Bool, true, false, cond}
 use mathlib.Core.List.{List}
-use Prim.Native.Nat.{ℕ, _<_}
+use Prim.Native.Nat.{ℕ, _^_, _<_}
 use native.Mathlib.Omega.{arith}
 use lib.ListN.{length, set}
 use Rattle.endian.specs.Lists.{wordAt}
@@ -83,6 +83,15 @@ module _ (change : ℕ → ℕ → ℕ) (file board next : List ℕ) (e : cycleW
   unfolding cycleWith
   board-length = let p = passed _ _ _ e in both-fit _ _ _ (p .room) .0 ∙ accepted file _ (p .checked) .count
 
+  -- the next cycle can go on from there, also where values are changed within their widths: 12 applies to no record of the next list
+  pub goes-on : ((j v : ℕ) → v < 2 ^ designOf file .at j .width → change j v < 2 ^ designOf file .at j .width) → (i : ℕ) → i < countOf file
+      → isWide (designOf file) (cycleWith change file board next .next) i ≡ false
+  unfolding designOf
+  goes-on narrow i h =
+      ap (λ (l : List ℕ). isWide (designOf file) l i) next-left
+      ∙ next-passes (designOf file) cycle-sound i h (valuesOf (designOf file) change board)
+      (λ j g. values-narrow (designOf file) cycle-sound change board board-length j g (narrow j))
+
 module _ (file board next : List ℕ) (e : cycleCall file board next .answer ≡ Done) where
   abbrev left : cycleCall file board next .board ≡ plainValues (designOf file) board
   left = values-left unchanged file board next e
@@ -109,14 +118,6 @@ module _ (file board next : List ℕ) (e : cycleCall file board next .answer ≡
       ap (λ (l : List ℕ). wordAt l i) (next-left unchanged file board next e)
       ∙ next-word (designOf file) (plainValues (designOf file) board) i h
       ∙ ap (λ (l : List ℕ). nextWord l (roleAt (designOf file) i)) (sym left)
-
-  -- the next cycle can go on from there: 12 applies to no record of the next list
-  pub goes-on : (i : ℕ) → i < countOf file → isWide (designOf file) (cycleCall file board next .next) i ≡ false
-  unfolding designOf
-  goes-on i h =
-      ap (λ (l : List ℕ). isWide (designOf file) l i) (next-left unchanged file board next e)
-      ∙ next-passes (designOf file) sound i h (plainValues (designOf file) board)
-      (λ j g. values-narrow (designOf file) sound unchanged board size j g (λ v l. l))
 
 -- "No lent word or byte changes."
 pub cycle-refused : (file board next : List ℕ) (r : Refusal) (i : ℕ) → cycleCall file board next .answer ≡ Refused r i

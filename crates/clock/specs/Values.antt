@@ -17,7 +17,8 @@ use Rattle.signal.specs.Results.{resultAt}
 abbrev pub valueAt : Design → List ℕ → ℕ → ℕ
 valueAt d board i = bitAnd (resultAt (d .at) (wordAt board) i) (d .at i .keep)
 
--- What becomes of the value of a record right after it is worked out: a number for each record and value. In a plain cycle nothing does.
+-- What becomes of the value of a record right after it is worked out: a number for each record and value. In a plain cycle it
+-- stays as it is.
 abbrev pub unchanged : ℕ → ℕ → ℕ
 unchanged i value = value
 

@@ -1,5 +1,5 @@
 // What a record asks of its operands under the care rules, kind by kind.
-// A caller has an accepted file and a record of it, or an operand that the file holds.
+// A caller has an accepted file, a record of it or an operand that the file holds, and the table of the low masks.
 use bits::arith::shl;
 use bits::arith::shr;
 use bits::mask::bit_length;

@@ -8,11 +8,12 @@ use lib.ListN.{getD}
 abbrev pub wordAt : List ℕ → ℕ → ℕ
 wordAt list i = getD list i 0
 
--- The list of n words whose word i is f i: f at the n places from i on, and from 0 on.
+-- The n words that f gives from place i on.
 unfoldable pub wordsFrom : (ℕ → ℕ) → ℕ → ℕ → List ℕ
 wordsFrom f i zero = []
 wordsFrom f i (suc n) = f i ∷ wordsFrom f (suc i) n
 
+-- The list of n words whose word i is f i.
 unfoldable pub wordsOf : (ℕ → ℕ) → ℕ → List ℕ
 wordsOf f n = wordsFrom f 0 n
 

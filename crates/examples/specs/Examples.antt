@@ -6,6 +6,7 @@ use lib.ListN.{length}
 use Rattle.endian.specs.Bytes.{bytes}
 use Rattle.endian.specs.Lists.{wordsOf}
 use Rattle.bits.specs.Words.{lowMask}
+use Rattle.netlist.specs.Layout.{countOf}
 use Rattle.netlist.specs.Refusals.{numberOf}
 use Rattle.care.specs.Call.{masksCall}
 use Rattle.care.specs.declared.Tallied.{Tallied}
@@ -84,13 +85,16 @@ square = fileWith (constant 64 0x100000001 ∷ mul 64 0 0 ∷ [])
 abbrev nibble : List ℕ
 nibble = fileWith (kept 0 8 0 0 0 0 0x0f ∷ [])
 
--- What masks says of a file of n records: the two tally numbers, and the masks.
+-- What `masks` prints of a file: n and the two tally numbers, and the mask of each record.
 abbrev answerOf : Tallied → List ℕ
 answerOf (Done t) = t .widths ∷ t .ones ∷ []
 answerOf (Refused r i) = numberOf r ∷ i ∷ []
 
-abbrev masksSay : List ℕ → ℕ → List ℕ
-masksSay file n = let call = masksCall file (wordsOf (λ i. 0) n) in answerOf (call .answer) ++ call .list
+abbrev masksSay : List ℕ → List ℕ
+masksSay file =
+    let n = countOf file in
+    let call = masksCall file (wordsOf (λ i. 0) n) in
+    n ∷ (answerOf (call .answer) ++ call .list)
 
 -- The values after a cycle on a board list, and the next list.
 abbrev valuesSay : List ℕ → List ℕ → List ℕ
@@ -106,11 +110,11 @@ pub record Row : Type 0 where
 
 unfoldable pub table : List Row
 table =
-    record { defined = masksSay (ramp 16 0) 7; said = 192 ∷ 112 ∷ 0xffff ∷ 0xffff ∷ 0xffff ∷ 0xffff ∷ 0xffff ∷ 0xffff ∷ 0xffff ∷ [] }
-    ∷ record { defined = masksSay (ramp 8 8) 7; said = 176 ∷ 88 ∷ 0xffff ∷ 0xffff ∷ 0xffff ∷ 0xffff ∷ 0xff00 ∷ 0xff ∷ 0xff ∷ [] }
-    ∷ record { defined = masksSay counter 3; said = 24 ∷ 0 ∷ 0 ∷ 0 ∷ 0 ∷ [] }
-    ∷ record { defined = masksSay shiftChain 6; said = 14 ∷ 14 ∷ 1 ∷ 0xf ∷ 7 ∷ 0xf ∷ 1 ∷ 1 ∷ [] }
-    ∷ record { defined = masksSay unreadMux 4; said = 25 ∷ 1 ∷ 1 ∷ 0 ∷ 0 ∷ 0 ∷ [] }
+    record { defined = masksSay (ramp 16 0); said = 7 ∷ 192 ∷ 112 ∷ 0xffff ∷ 0xffff ∷ 0xffff ∷ 0xffff ∷ 0xffff ∷ 0xffff ∷ 0xffff ∷ [] }
+    ∷ record { defined = masksSay (ramp 8 8); said = 7 ∷ 176 ∷ 88 ∷ 0xffff ∷ 0xffff ∷ 0xffff ∷ 0xffff ∷ 0xff00 ∷ 0xff ∷ 0xff ∷ [] }
+    ∷ record { defined = masksSay counter; said = 3 ∷ 24 ∷ 0 ∷ 0 ∷ 0 ∷ 0 ∷ [] }
+    ∷ record { defined = masksSay shiftChain; said = 6 ∷ 14 ∷ 14 ∷ 1 ∷ 0xf ∷ 7 ∷ 0xf ∷ 1 ∷ 1 ∷ [] }
+    ∷ record { defined = masksSay unreadMux; said = 4 ∷ 25 ∷ 1 ∷ 1 ∷ 0 ∷ 0 ∷ 0 ∷ [] }
     ∷ record { defined = nextSay swapped (1 ∷ 2 ∷ []); said = 2 ∷ 1 ∷ [] }
     ∷ record { defined = valuesSay difference (0 ∷ 0 ∷ 0 ∷ []); said = 0 ∷ 1 ∷ 255 ∷ [] }
     ∷ record { defined = valuesSay square (0 ∷ 0 ∷ []); said = 0x100000001 ∷ 8589934593 ∷ [] }

@@ -4,7 +4,7 @@ use Prim.Native.Nat.{ℕ}
 use Rattle.netlist.specs.declared.refusal.Refusal.{Refusal}
 use Rattle.netlist.specs.declared.refusal.Refusal.the-variants.{TooShort, BadMark, BadVersion, TooManyRecords, BadLength, BadKind, BadWidth, BadOperand, BadWidthRule, UnusedBit, BadList, WideWord, BadDestination}
 
--- The paper's number of each refusal.
+-- "What is refused, in checking order": the numbers of that list.
 abbrev pub numberOf : Refusal → ℕ
 numberOf TooShort = 1
 numberOf BadMark = 2

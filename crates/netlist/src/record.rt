@@ -1,5 +1,6 @@
 // A record of a netlist: its kind with the operands that the kind uses, and beside it the width and the keep word.
-// What the code knows of a kind stands here, in `fit` (the width rules, the number of an output), in `result` and in `demand`.
+// What the code knows of a kind stands here, in `fit` (the width rules, the number of an output), in `result` and in `demand`. Nothing is asked of
+// a caller but by `of_source` and `of_single`, which want a kind of theirs.
 ghost use mathlib.Core.Path.{_≡_};
 ghost use mathlib.Core.Bool.{cond};
 ghost use Prim.Native.Nat.{_≤_, _<_};
@@ -35,7 +36,7 @@ pub enum Kind {
     Below { a: usize, b: usize },
 }
 
-// The part that a record plays in a design.
+// The role of a record in a design.
 pub enum Role {
     Input,
     Register { a: usize, k: u64 },

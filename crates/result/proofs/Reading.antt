@@ -11,7 +11,7 @@ use Rattle.netlist.specs.declared.record.Record.{Record}
 use Rattle.netlist.proofs.KindLaws.{usedFields}
 use Rattle.rules.specs.Sound.{Acceptance}
 use Rattle.rules.proofs.FieldLaws.{fields-used}
-use Rattle.rules.proofs.SoundLaws.{OperandsBelow, operands-below}
+use Rattle.rules.proofs.SoundLaws.{operands-below}
 use Rattle.signal.specs.Results.{resultOf, resultAt}
 
 -- operand fields that lie below n

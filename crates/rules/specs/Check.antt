@@ -20,7 +20,8 @@ use Rattle.rules.specs.declared.Verdict.the-variants.{Pass, Fail}
 abbrev pub markRules : List ℕ → List Rule
 markRules file = equal (byteAt file 0) 0x50 ∷ equal (byteAt file 1) 0x43 ∷ equal (byteAt file 2) 0x4e ∷ equal (byteAt file 5) 0 ∷ []
 
--- Rules 1 to 5, of the file as a whole: each refusal applies where its rules do not all hold.
+-- Rules 1 to 5, of the file as a whole: each refusal applies where its rules do not all hold. 1: "The file has fewer than 8 bytes." 2 as above.
+-- 3: "The version is not 1." 4: "The count is above 2,048." 5: "The length is not 8 + 24 × n."
 unfoldable pub headerRules : List ℕ → List (Refusal × List Rule)
 headerRules file =
     (TooShort, atMost headerSize (length file) ∷ [])
@@ -30,7 +31,7 @@ headerRules file =
     ∷ (BadLength, equal (length file) (headerSize + recordSize * countOf file) ∷ [])
     ∷ []
 
--- "Numbers 6 to 10 are tried in turn within a record".
+-- "Numbers 6 to 10 are tried in turn within a record". 6: "The kind is above 14." 7 to 10 are in `Fit`.
 unfoldable pub recordRules : List ℕ → ℕ → List (Refusal × List Rule)
 recordRules file i =
     let d = designOf file in

@@ -14,7 +14,7 @@ use Rattle.netlist.specs.declared.record.Role.the-variants.{Register as registe
 use Rattle.netlist.proofs.KindLaws.{is-register}
 use Rattle.rules.specs.Fit.{namesRules}
 use Rattle.rules.specs.Sound.{Sound}
-use Rattle.signal.specs.Asks.{ask, asksOf, caredOf, asked}
+use Rattle.signal.specs.Asks.{ask, asksOf, demandOf, asked}
 use Rattle.signal.specs.AskLists.{Named}
 use Rattle.signal.proofs.ResultLaws.{names-below}
 
@@ -40,9 +40,9 @@ module _ (d : Design) (limit : ℕ) (at : ℕ → Record) (D : ℕ) where
 
 pub asked-below : (d : Design) → Sound d → (i : ℕ) → i < d .count → isHeld (roleAt d i) ≡ false → (m : ℕ) → Named i (asked (d .at) i m)
 unfolding asked
-asked-below d s i h e m = asks-named d i (d .at) (caredOf (d .at i) m) (d .at i .kind) (names-below d s i h e)
+asked-below d s i h e m = asks-named d i (d .at) (demandOf (d .at i) m) (d .at i .kind) (names-below d s i h e)
 
 -- "a register's a has D"
-pub register-asks : (d : Design) (i a k m : ℕ) → roleAt d i ≡ register a k → asked (d .at) i m ≡ ask a (caredOf (d .at i) m) ∷ []
+pub register-asks : (d : Design) (i a k m : ℕ) → roleAt d i ≡ register a k → asked (d .at) i m ≡ ask a (demandOf (d .at i) m) ∷ []
 unfolding asked
-register-asks d i a k m e = ap (λ (kind : Kind). asksOf (d .at) kind (caredOf (d .at i) m)) (is-register (d .at i .kind) a k e)
+register-asks d i a k m e = ap (λ (kind : Kind). asksOf (d .at) kind (demandOf (d .at i) m)) (is-register (d .at i .kind) a k e)

@@ -25,7 +25,7 @@ use Rattle.rules.specs.Fit.{operandLimit, namesRules, operandRules, widthRulesA
 use Rattle.rules.specs.Sound.{Sound}
 use Rattle.rules.proofs.SoundLaws.{operands-below}
 use Rattle.signal.specs.Results.{resultOf, resultAt}
-use Rattle.signal.specs.Asks.{ask, allIfAny, asksOf, caredOf, asked}
+use Rattle.signal.specs.Asks.{ask, allIfAny, asksOf, demandOf, asked}
 use Rattle.signal.specs.declared.Ask.{Ask}
 
 -- ---- what two runs have in common at an operand
@@ -97,9 +97,9 @@ module _ (at : ℕ → Record) (v v′ : ℕ → ℕ) {w D : ℕ} (low : D < 2 ^
 
 -- the law for the records of a sound design
 module _ (d : Design) (s : Sound d) (i : ℕ) (h : i < d .count) (v v′ : ℕ → ℕ) where
-  pub result-agree : (m : ℕ) → (isHeld (roleAt d i) ≡ true → Agree (caredOf (d .at i) m) (v i) (v′ i))
+  pub result-agree : (m : ℕ) → (isHeld (roleAt d i) ≡ true → Agree (demandOf (d .at i) m) (v i) (v′ i))
       → (isHeld (roleAt d i) ≡ false → AllMet (d .at) v v′ (asked (d .at) i m))
-      → Agree (caredOf (d .at i) m) (resultAt (d .at) v i) (resultAt (d .at) v′ i)
+      → Agree (demandOf (d .at i) m) (resultAt (d .at) v i) (resultAt (d .at) v′ i)
   unfolding asked resultAt widthRulesAt
   result-agree m held met =
       let r = s .each i h in
@@ -109,7 +109,7 @@ module _ (d : Design) (s : Sound d) (i : ℕ) (h : i < d .count) (v v′ : ℕ �
 
 -- ---- what a result depends on
 
--- a result hangs on the operands that the kind uses, and on the record's own word where that counts
+-- a result depends on the operands that the kind uses, and on the record's own word where that counts
 module _ (d : Design) (limit : ℕ) (v v′ : ℕ → ℕ) (same : (j : ℕ) → j < limit → v j ≡ v′ j) where
   results-same : (kind : Kind) (w wb own own′ : ℕ) → (isHeld (usesOf kind .role) ≡ true → own ≡ own′)
       → (isHeld (usesOf kind .role) ≡ false → AllHold (namesRules d limit (operandsOf (usesOf kind))))

@@ -21,7 +21,7 @@ use Rattle.netlist.specs.declared.record.Record.{Record}
 use Rattle.rules.specs.Fit.{widthRulesAt}
 use Rattle.rules.specs.Sound.{Sound}
 use Rattle.rules.proofs.SoundLaws.{OperandsBelow, operands-below, word-64}
-use Rattle.signal.specs.Asks.{upToHighest, allIfAny, asksOf, caredOf, asked, Granted, Fit}
+use Rattle.signal.specs.Asks.{upToHighest, allIfAny, asksOf, demandOf, asked, Granted, Fit}
 use Rattle.signal.specs.AskLists.{NoBit}
 
 -- all bits if D is not 0: more of D asks for no less
@@ -135,5 +135,5 @@ module _ (d : Design) (s : Sound d) (i : ℕ) (h : i < d .count) where
   unfolding asked widthRulesAt
   asked-fit m =
       let o = operands-below d s i h in
-      asks-fit d (d .at i .width) (caredOf (d .at i) m) (within-lt (d .at i .width) (meet-right m (d .at i .keep)) (s .each i h .keep)) (d .at i .kind) o
+      asks-fit d (d .at i .width) (demandOf (d .at i) m) (within-lt (d .at i .width) (meet-right m (d .at i .keep)) (s .each i h .keep)) (d .at i .kind) o
       (s .each (usesOf (d .at i .kind) .a) (o .a) .narrow) (s .each i h .widths)

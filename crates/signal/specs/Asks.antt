@@ -13,7 +13,7 @@ use Rattle.netlist.specs.declared.record.Kind.the-variants.{Input, Constant, Re
 use Rattle.netlist.specs.declared.record.Record.{Record}
 use Rattle.signal.specs.declared.Ask.{Ask}
 
--- An operand has a mask: this is asked of it.
+-- An ask: a mask that is asked of an operand.
 abbrev pub ask : ℕ → ℕ → Ask
 ask operand mask = record { operand = operand; mask = mask }
 
@@ -52,12 +52,12 @@ asksOf at (Equal a b) D = ask a (allIfAny (at a .width) D) ∷ ask b (allIfAny (
 asksOf at (Below a b) D = ask a (allIfAny (at a .width) D) ∷ ask b (allIfAny (at b .width) D) ∷ []
 
 -- "D(x) is M(x) and its keep word, bit by bit."
-abbrev pub caredOf : Record → ℕ → ℕ
-caredOf r m = bitAnd m (r .keep)
+abbrev pub demandOf : Record → ℕ → ℕ
+demandOf r m = bitAnd m (r .keep)
 
 -- What record i asks when its mask is m.
 unfoldable pub asked : (ℕ → Record) → ℕ → ℕ → List Ask
-asked at i m = asksOf at (at i .kind) (caredOf (at i) m)
+asked at i m = asksOf at (at i .kind) (demandOf (at i) m)
 
 -- A family of masks grants what is asked: each operand's mask has all the bits asked of it.
 abbrev pub Granted : List Ask → (ℕ → ℕ) → Type 0

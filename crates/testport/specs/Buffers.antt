@@ -1,4 +1,4 @@
--- What a call of the test port answers, and what it does with the byte lists lent to it, refused calls included.
+-- What a call of the test port does with the byte lists lent to it, refused calls included.
 -- Assumes nothing.
 use mathlib.Core.Bool.{Bool}
 use mathlib.Core.List.{List}
@@ -7,18 +7,10 @@ use lib.Dec.{eqb}
 use lib.ListN.{length}
 use Rattle.endian.specs.Bytes.{wordsIn, wordBytes}
 use Rattle.netlist.specs.Layout.{designOf, countOf}
-use Rattle.netlist.specs.Refusals.{numberOf}
 use Rattle.rules.specs.Check.{checkOf}
 use Rattle.clock.specs.Call.{answerAfter, bothHave, wordsAnswer, leaves, StartCall, CycleCall}
 use Rattle.clock.specs.Values.{plainValues, plainNext, startOf}
-use Rattle.clock.specs.declared.Clocked.{Clocked}
-use Rattle.clock.specs.declared.Clocked.the-variants.{Done, Refused}
-use Rattle.answer.specs.Answer.{refusedAnswer}
-
--- The answer as one number: a refusal as the desktop has it, and 0 for a call that was accepted.
-unfoldable pub clockedAnswer : Clocked → ℕ
-clockedAnswer Done = 0
-clockedAnswer (Refused r i) = refusedAnswer (numberOf r) i
+use Rattle.clock.specs.declared.Clocked.the-variants.{Done}
 
 -- A start on a board list of 8 × n bytes.
 unfoldable pub startBuffer : List ℕ → List ℕ → StartCall

@@ -20,7 +20,8 @@ ghost use Rattle.netlist.specs.Layout.{designOf};
 ghost use Rattle.rules.specs.Sound.{Acceptance};
 ghost use Rattle.clock.specs.Call.{wordsAnswer, leaves};
 ghost use Rattle.clock.specs.Values.{startOf};
-ghost use Rattle.testport.specs.Buffers.{clockedAnswer, startBuffer, bufferWords, bufferValues, bufferNext, cycleBuffers};
+ghost use Rattle.answer.specs.Answer.{clockedAnswer};
+ghost use Rattle.testport.specs.Buffers.{startBuffer, bufferWords, bufferValues, bufferNext, cycleBuffers};
 ghost use Rattle.testport.specs.Lent.{LowRecord, Lent};
 
 // The answer as one number: 0, or the refusal and its record.

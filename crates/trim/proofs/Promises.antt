@@ -9,7 +9,7 @@ use Rattle.netlist.specs.declared.refusal.Refusal.{Refusal}
 use Rattle.rules.specs.Check.{checkOf}
 use Rattle.rules.specs.Sound.{SameDesign}
 use Rattle.rules.specs.declared.Checked.the-variants.{Accepted}
-use Rattle.signal.specs.Asks.{caredOf}
+use Rattle.signal.specs.Asks.{demandOf}
 use Rattle.care.specs.Call.{MasksCall, tallyOf, masksCall}
 use Rattle.care.specs.Least.{maskAt, masksOf}
 use Rattle.care.specs.declared.Tallied.{Tallied}
@@ -41,10 +41,10 @@ module _ (file list destination : List ℕ) (n : ℕ) (e : checkOf file ≡ Acce
   only-keep-words p out = of-call (λ masks other. byteAt other p ≡ byteAt file p) (byte-same file n e (masksOf (designOf file)) p out)
 
   -- "the new keep word is D"
-  pub keep-is-D : (i : ℕ) → i < countOf file → keepAt (call .destination) i ≡ caredOf (recordAt file i) (maskAt (call .list) i)
+  pub keep-is-D : (i : ℕ) → i < countOf file → keepAt (call .destination) i ≡ demandOf (recordAt file i) (maskAt (call .list) i)
   unfolding trimDesign designOf
   keep-is-D i l =
-      of-call (λ masks other. keepAt other i ≡ caredOf (recordAt file i) (maskAt masks i)) (keep-cut file n e (masksOf (designOf file)) i l)
+      of-call (λ masks other. keepAt other i ≡ demandOf (recordAt file i) (maskAt masks i)) (keep-cut file n e (masksOf (designOf file)) i l)
 
   pub holds-D : SameDesign (trimDesign (designOf file) (call .list)) (designOf (call .destination))
   holds-D = of-call (λ masks other. SameDesign (trimDesign (designOf file) masks) (designOf other)) (holds-cut file n e (masksOf (designOf file)))

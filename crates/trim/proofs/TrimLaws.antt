@@ -13,7 +13,7 @@ use borrow.Rule.Slice.PartMut.{midOf, putMid}
 use Rattle.endian.specs.Bytes.{numberAt, bytes}
 use Rattle.endian.proofs.Stores.{stored-before, stored-outside, number-same, number-stored, part-stored}
 use Rattle.netlist.specs.Layout.{countOf, byteAt, recordAt, recordSize, recordStart, keepStart}
-use Rattle.signal.specs.Asks.{caredOf}
+use Rattle.signal.specs.Asks.{demandOf}
 use Rattle.care.specs.Least.{maskAt}
 use Rattle.care.proofs.Families.{below-or-not}
 use Rattle.trim.specs.Trimmed.{newKeep, trimTo, trimmedBy, Outside}
@@ -46,8 +46,8 @@ module _ (file masks : List ℕ) where
       stored-outside (bytes 8 (newKeep file masks n)) (trimTo file masks n) _ p (h n (omega arith)) ∙ trim-outside n p (λ i g. h i (omega arith))
 
   -- "the new keep word is D"
-  pub trim-keep : (n j : ℕ) → j < n → recordStart n ≤ length file → caredOf (recordAt file j) (maskAt masks j) < 2 ^ 64
-      → numberAt (trimTo file masks n) (keepStart j) 8 ≡ caredOf (recordAt file j) (maskAt masks j)
+  pub trim-keep : (n j : ℕ) → j < n → recordStart n ≤ length file → demandOf (recordAt file j) (maskAt masks j) < 2 ^ 64
+      → numberAt (trimTo file masks n) (keepStart j) 8 ≡ demandOf (recordAt file j) (maskAt masks j)
   unfolding trimTo
   trim-keep zero j h l low = absurd (not-suc-le-zero h)
   trim-keep (suc n) j h l low = here-or-before (λ g. trim-keep n j g (omega arith) low) (eq-or-lt-of-le (let g : j ≤ n = omega arith in g))
@@ -59,7 +59,7 @@ module _ (file masks : List ℕ) where
       new = bytes 8 (newKeep file masks n)
 
       D : ℕ → ℕ
-      D i = caredOf (recordAt file i) (maskAt masks i)
+      D i = demandOf (recordAt file i) (maskAt masks i)
 
       here-or-before : (j < n → numberAt list (keepStart j) 8 ≡ D j) → (j ≡ n) ⊎ (j < n) → numberAt (sets list (keepStart n) new) (keepStart j) 8 ≡ D j
       here-or-before before (inl q) =

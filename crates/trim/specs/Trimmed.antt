@@ -7,12 +7,12 @@ use lib.Seq.{sets}
 use Rattle.endian.specs.Bytes.{bytes}
 use Rattle.netlist.specs.Layout.{Design, designOf, countOf, recordAt, keepStart}
 use Rattle.netlist.specs.declared.record.Record.{Record}
-use Rattle.signal.specs.Asks.{caredOf}
+use Rattle.signal.specs.Asks.{demandOf}
 use Rattle.care.specs.Least.{maskAt, masksOf}
 
 -- "the new keep word is D"
 abbrev pub newKeep : List ℕ → List ℕ → ℕ → ℕ
-newKeep file masks i = caredOf (recordAt file i) (maskAt masks i)
+newKeep file masks i = demandOf (recordAt file i) (maskAt masks i)
 
 -- "It changes only bytes 16 to 23 of each record": a file once this is done to the records below i. The bytes of the new keep word stand
 -- where the old one stood.
@@ -33,7 +33,7 @@ Outside n p = (i : ℕ) → i < n → (p < keepStart i) ⊎ (keepStart i + 8 ≤
 
 -- The same for designs: the keep word of each record is D, and all else is as it was.
 abbrev pub trimRecord : Record → ℕ → Record
-trimRecord r mask = record { kind = r .kind; width = r .width; keep = caredOf r mask }
+trimRecord r mask = record { kind = r .kind; width = r .width; keep = demandOf r mask }
 
 unfoldable pub trimDesign : Design → List ℕ → Design
 trimDesign d masks = record { count = d .count; at = λ i. trimRecord (d .at i) (maskAt masks i) }

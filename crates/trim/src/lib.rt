@@ -1,2 +1,2 @@
-// Trimming: a file with the bits cleared that no output can feel. This crate has definitions and theorems, and no code.
+// Trimming: a file whose keep words are cut by its masks. This crate has definitions and theorems, and no code.
 // Nothing is asked of a caller.

@@ -3,7 +3,7 @@
 use mathlib.Core.Path.{ap, subst, _∙_}
 use Prim.Native.Nat.{ℕ}
 use Rattle.answer.specs.Answer.{refusedAnswer}
-use Rattle.testport.specs.Buffers.{clockedAnswer}
+use Rattle.answer.specs.Answer.{clockedAnswer}
 use Rattle.testport.specs.Lent.{LowRecord}
 use Rattle.testport.proofs.answer_of.Statement.{statement}
 use Rattle.testport.proofs.answer_of.Tie as tie

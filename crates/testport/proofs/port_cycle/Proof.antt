@@ -12,7 +12,8 @@ use Rattle.rules.proofs.Acceptance.{accepted, refused-low, few}
 use Rattle.clock.specs.Call.{wordsAnswer}
 use Rattle.clock.proofs.CallLaws.{answer-refused, answer-bad-list, answer-fit, both-fit}
 use Rattle.answer.specs.Answer.{refusedAnswer}
-use Rattle.testport.specs.Buffers.{clockedAnswer, bufferWords, buffersFit}
+use Rattle.answer.specs.Answer.{clockedAnswer}
+use Rattle.testport.specs.Buffers.{bufferWords, buffersFit}
 use Rattle.testport.specs.Lent.{LowRecord}
 use Rattle.testport.proofs.BufferLaws.{cycle-ends, answer-low}
 use Rattle.testport.proofs.port_cycle.Statement.{statement}

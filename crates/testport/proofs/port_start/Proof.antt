@@ -12,7 +12,7 @@ use Rattle.rules.proofs.Acceptance.{accepted, refused-low, few}
 use Rattle.clock.specs.declared.Clocked.the-variants.{Done}
 use Rattle.clock.proofs.CallLaws.{answer-refused, answer-bad-list, answer-fit}
 use Rattle.answer.specs.Answer.{refusedAnswer}
-use Rattle.testport.specs.Buffers.{clockedAnswer}
+use Rattle.answer.specs.Answer.{clockedAnswer}
 use Rattle.testport.proofs.BufferLaws.{start-ends}
 use Rattle.testport.proofs.port_start.Statement.{statement}
 use Rattle.testport.proofs.port_start.Tie as tie

@@ -1,6 +1,6 @@
 -- `desktop::trimming::trim_all` meets its contract: the masks are filled in, and the trimmed file is written by them.
 -- Assumes nothing.
-use mathlib.Core.Path.{sym, ap, _∙_}
+use mathlib.Core.Path.{ap, _∙_}
 use borrow.Author.Needs.{needs}
 use denote.Ref.{now}
 use Rattle.care.proofs.LeastMasks.{masks-length}

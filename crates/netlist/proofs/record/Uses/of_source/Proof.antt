@@ -1,7 +1,6 @@
 -- `netlist::record::Uses::of_source` meets its contract: below 2 there are 0, an input, and 1, a constant.
 -- Assumes nothing.
 use mathlib.Core.Path.{_≡_}
-use Prim.Native.Nat.{ℕ}
 use native.Mathlib.Omega.{arith}
 use borrow.Author.Needs.{needs}
 use Rattle.netlist.specs.Kinds.{kindOf}
