@@ -1,5 +1,5 @@
-# The commands of the repository. Each stands on the Rattle kit (rt) and gcc.
-# `make sample` shows the program on a sample file; `make test` is the gate; `make bench` compares speed with plain C; `make install` copies to PREFIX.
+# The commands of the repository: `make sample` shows the program on a sample file, `make test` is the gate, `make install` copies to PREFIX.
+# Assumes the Rattle kit (rt) on the PATH; `make test` sees to the other tools itself.
 
 LIBRARY = target/staticlib/libdesktop.a
 PORT = target/staticlib/libtestport.a
@@ -9,7 +9,11 @@ PROGRAM = target/bin/masks
 PREFIX ?= /usr/local
 INSTALLED = $(DESTDIR)$(PREFIX)
 
-.PHONY: program sample library port test bench install uninstall
+.PHONY: program sample library port test bench bench-write fuzz install uninstall
+
+# How long `make fuzz` searches, and from which seed.
+SECONDS = 3600
+SEED = 1
 
 # Two runs of rt at the same time would write the same files.
 .NOTPARALLEL:
@@ -28,10 +32,18 @@ port:
 	rt staticlib testport
 
 test:
+	@tests/setup
 	@tests/gate
 
 bench: library port
 	@tests/bench/run $(LIBRARY) $(PORT)
+
+# The same, and puts the result into docs/BENCHMARKS.md.
+bench-write: library port
+	@tests/bench/run --write $(LIBRARY) $(PORT)
+
+fuzz: library port
+	@tests/fuzz/run $(SECONDS) $(SEED)
 
 # Installed, the library has its header's name, so that a C program links with -lpcn.
 install: program library

@@ -1,5 +1,6 @@
 /* Pitch card netlists: the functions that a C or C++ program may call.
-   Assumes a 64-bit x86 target linked with libdesktop.a. */
+   Assumes a 64-bit x86 target, linked with libpcn.a (in a clone it is
+   target/staticlib/libdesktop.a). */
 
 #ifndef PCN_H
 #define PCN_H
@@ -102,7 +103,8 @@ enum pcn_refusal {
 /* Checks a netlist file. Accepted: the answer is the count of records. */
 uint64_t pcn_check(const uint8_t *file, size_t length);
 
-/* Works out which bits of each signal can reach an output.
+/* Works out the care mask of each signal: a bit outside it can change no
+   output.
 
    Refused as pcn_check refuses the file, and then by 11. Accepted: the
    answer holds the tally, and all bytes of the mask list are written. The
@@ -111,7 +113,7 @@ uint64_t pcn_check(const uint8_t *file, size_t length);
 uint64_t pcn_masks(const uint8_t *file, size_t length, uint8_t *masks,
                    size_t masks_length);
 
-/* Writes a file in which the bits that can reach no output are cleared.
+/* Writes a file in which the bits outside the masks are cleared.
 
    Refused as pcn_masks refuses, and then by 13. Accepted: the answer and the
    mask list are those of pcn_masks, and all bytes of the destination are

@@ -55,8 +55,7 @@ static const struct row rows[] = {
       { 64, 256, 1024, 2048 } }
 };
 
-int main(void)
+int main(int argc, char **argv)
 {
-    return run_rows("the model's check, and for masks and trim whole sweeps in"
-                    " C", rows, sizeof rows / sizeof *rows) ? 0 : 1;
+    return run_rows(argc, argv, rows, sizeof rows / sizeof *rows);
 }

@@ -7,6 +7,7 @@
 #include <stdio.h>
 #include <string.h>
 
+#include "counted.h"
 #include "timing.h"
 
 /* What the two lists of a file held. */
@@ -34,7 +35,8 @@ static int still_held(const struct held *held, const struct lent *lent)
 }
 
 /* Both must accept every file with the same answer, and leave the same bytes
-   in the lists. */
+   in the lists. The counts rely on the order: a call of the library and then
+   one of plain C, for each design. */
 static int same_results(const struct row *row, const struct workload *work)
 {
     static struct held before, left;
@@ -45,47 +47,50 @@ static int same_results(const struct row *row, const struct workload *work)
         uint64_t library, plain;
 
         keep_lists(&before, lent);
-        library = row->library(lent);
+        library = counted(row->library, lent);
         keep_lists(&left, lent);
         put_back(&before, lent);
-        plain = row->plain(lent);
+        plain = counted(row->plain, lent);
         if (library >> 63 || library != plain || !still_held(&left, lent))
             return 0;
     }
     return 1;
 }
 
-static int run_row(const struct row *row, uint32_t count)
+static int run_row(const struct row *row, uint32_t count, int once)
 {
     static struct workload work;
-    struct times times;
 
     row->make(&work, count);
     if (!same_results(row, &work)) {
-        printf("%s: the results differ at %" PRIu32 " records\n", row->name,
-               count);
+        fprintf(stderr, "%s: the results differ at %" PRIu32 " records\n",
+                row->name, count);
         return 0;
     }
-    times = time_both(row->library, row->plain, &work);
-    printf("%-22s %7" PRIu32 " %12.3f %12.3f %7.2f %11.2f %11.2f\n",
-           row->name, count, times.library, times.plain,
-           times.library / times.plain, times.library * 1e3 / count,
-           times.plain * 1e3 / count);
-    fflush(stdout);
+    printf("%s\t%" PRIu32 "\t%" PRIu32, row->name, count, work.files);
+    if (!once) {
+        struct times times = time_both(row->library, row->plain, &work);
+
+        printf("\t%.6f\t%.6f", times.library, times.plain);
+    }
+    printf("\n");
     return 1;
 }
 
-int run_rows(const char *plain, const struct row *rows, size_t count)
+int run_rows(int argc, char **argv, const struct row *rows, size_t count)
 {
-    size_t i, j;
+    int once = argc == 2 && strcmp(argv[1], "--once") == 0;
     int same = 1;
+    size_t i, j;
 
-    printf("best of %d rounds; plain is %s\n", ROUNDS, plain);
-    printf("%-22s %7s %12s %12s %7s %11s %11s\n", "", "records", "library us",
-           "plain us", "ratio", "lib ns/rec", "plain ns/rec");
+    if (argc > 1 && !once) {
+        fprintf(stderr, "usage: %s [--once]\n", argv[0]);
+        return 2;
+    }
+    printf("rounds\t%d\t%d\n", ROUNDS, ROUND_MICROSECONDS);
     for (i = 0; i < count; i++)
         for (j = 0; j < ROW_COUNTS; j++)
             if (rows[i].counts[j] != 0)
-                same &= run_row(&rows[i], rows[i].counts[j]);
-    return same;
+                same &= run_row(&rows[i], rows[i].counts[j], once);
+    return same ? 0 : 1;
 }

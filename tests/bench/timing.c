@@ -7,8 +7,6 @@
 
 #include <time.h>
 
-enum { ROUND_MICROSECONDS = 20000 };
-
 /* Keeps the answers in use, so that no call can be left out. */
 static volatile uint64_t sink;
 

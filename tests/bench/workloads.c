@@ -157,6 +157,13 @@ void clocked_with_mul(struct workload *work, uint32_t count)
     clocked_as(work, count, &clocked_with_mul_style);
 }
 
+/* A random word of 64 bits with the highest one set: the product takes a step
+   for each bit up to the highest. */
+static uint64_t long_word(struct rng *rng)
+{
+    return rng_word(rng) | (uint64_t)1 << 63;
+}
+
 /* The worst case of a product that is put together from sums: two inputs of
    64 bits, and all other records but an output multiply them. */
 void multipliers(struct workload *work, uint32_t count)
@@ -172,4 +179,6 @@ void multipliers(struct workload *work, uint32_t count)
     netlist_output(&net, 2, width_mask(64));
     add_file(work);
     add_lists(work, &rng);
+    write_64(work->lent[0].list, long_word(&rng));
+    write_64(work->lent[0].list + 8, long_word(&rng));
 }

@@ -2,7 +2,6 @@
    Assumes a system that can map more than 4 GiB of untouched memory. */
 
 #include <stdio.h>
-#include <stdlib.h>
 #include <string.h>
 
 #include "../model/model.h"
@@ -11,11 +10,12 @@
 #include "designs.h"
 #include "guard.h"
 #include "neighbours.h"
+#include "placings.h"
 #include "port.h"
 #include "report.h"
 #include "trial.h"
 
-enum { ROOM = 8 * COUNT_LIMIT, PLACES = 16 };
+enum { ROOM = 8 * COUNT_LIMIT };
 
 static struct netlist net;
 static struct file file;
@@ -39,6 +39,19 @@ static void make_case(uint64_t index, uint32_t count)
                 list_length);
 }
 
+/* The numbers do not matter: a case has words for its lists. */
+static struct lent lend(unsigned long in_board, unsigned long in_next)
+{
+    struct lent lent = { file.bytes, file.length, lists.board, list_length,
+                         lists.next, list_length };
+
+    (void)in_board;
+    (void)in_next;
+    memcpy(lists.board, before.board, list_length);
+    memcpy(lists.next, before.next, list_length);
+    return lent;
+}
+
 static void demand_lists(const uint8_t *board, const uint8_t *next,
                          uint64_t answer)
 {
@@ -49,83 +62,26 @@ static void demand_lists(const uint8_t *board, const uint8_t *next,
         printf("      the next list is not the right one\n");
 }
 
-static void try_placing(const struct placing *placing)
+static void demand_lent(const struct lent *lent, uint64_t answer)
 {
-    struct lent lent = { file.bytes, file.length, lists.board, list_length,
-                         lists.next, list_length };
-    uint64_t answer = 0;
-
-    memcpy(lists.board, before.board, list_length);
-    memcpy(lists.next, before.next, list_length);
-    if (!guarded_call(library_cycle, &lent, placing, &answer) && test_fail())
-        printf("      stepped outside at edge %d, with %lu, %lu and %lu"
-               " bytes away\n", (int)placing->edge,
-               (unsigned long)placing->file_away,
-               (unsigned long)placing->list_away,
-               (unsigned long)placing->next_away);
-    demand_lists(lists.board, lists.next, answer);
+    demand_lists(lent->list, lent->next, answer);
 }
 
-static void alignments(void)
+/* A start after the cycle, on the same lists. */
+static void demand_start_too(const struct lent *lent, uint64_t answer)
 {
-    static const enum edge edges[2] = { AT_END, AT_FRONT };
-    struct placing placing;
-    unsigned i;
-
-    test_begin("cycle: file and lists may begin at any address");
-    make_case(0, 30);
-    for (i = 0; i < 2 * PLACES * PLACES * PLACES; i++) {
-        placing.edge = edges[i % 2];
-        placing.file_away = i / 2 % PLACES;
-        placing.list_away = i / 2 / PLACES % PLACES;
-        placing.next_away = i / 2 / PLACES / PLACES;
-        try_placing(&placing);
-    }
-    test_end();
-}
-
-/* All three can be written here, so a change of the file, or of one list
-   through the other, would show and not trap. */
-static void try_order(int order)
-{
-    size_t lengths[3], places[3];
-    uint8_t *block, *bytes, *board, *next;
-
-    lengths[0] = file.length;
-    lengths[1] = lengths[2] = list_length;
-    place_three(order, lengths, places);
-    block = malloc(file.length + 2 * list_length);
-    if (block == NULL)
-        exit(2);
-    bytes = block + places[0];
-    board = block + places[1];
-    next = block + places[2];
-    memcpy(bytes, file.bytes, file.length);
-    memcpy(board, before.board, list_length);
-    memcpy(next, before.next, list_length);
-    demand_lists(board, next, port_cycle(bytes, file.length, board,
-                                         list_length, next, list_length));
-    demand_answer(port_start(bytes, file.length, board, list_length), 0);
-    if (memcmp(next, right.next, list_length) != 0 && test_fail())
+    demand_lent(lent, answer);
+    demand_answer(library_start(lent), 0);
+    if (memcmp(lent->next, right.next, list_length) != 0 && test_fail())
         printf("      a start changed the bytes beside its board list\n");
-    if (memcmp(bytes, file.bytes, file.length) != 0 && test_fail())
-        printf("      the file was changed\n");
-    free(block);
 }
 
-static void neighbours(void)
-{
-    uint32_t count;
-    int order;
-
-    test_begin("start and cycle: file and lists right beside each other");
-    for (count = 0; count < 100; count++) {
-        make_case(100 + count, count);
-        for (order = 0; order < ORDERS; order++)
-            try_order(order);
-    }
-    test_end();
-}
+static const struct subject cycle = {
+    library_cycle, make_case, lend, demand_lent
+};
+static const struct subject cycle_and_start = {
+    library_cycle, make_case, lend, demand_start_too
+};
 
 /* Fills the next list, and the board list beside inputs and registers. */
 static void fill_elsewhere(int filling)
@@ -231,8 +187,11 @@ static void huge_lengths(void)
 
 void clock_memory(void)
 {
-    alignments();
-    neighbours();
+    try_alignments(&cycle, "cycle: file and lists may begin at any address",
+                   0, 30);
+    try_neighbours(&cycle_and_start,
+                   "start and cycle: file and lists right beside each other",
+                   100);
     old_contents();
     calls_in_turn();
     huge_lengths();

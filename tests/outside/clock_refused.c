@@ -5,6 +5,7 @@
 #include "../model/model.h"
 #include "clock_parts.h"
 #include "clock_trial.h"
+#include "damaged.h"
 #include "designs.h"
 #include "families.h"
 #include "fixture.h"
@@ -134,9 +135,8 @@ static void order(void)
 
     test_begin("1 to 10: go before 11 and 12, and the lists stay the same");
     for (refusal = 1; refusal <= 10; refusal++) {
-        uint32_t record = refusal >= 6 ? ADDS_FIRST : 0;
+        uint32_t record = adds_broken_file(&file, refusal);
 
-        adds_broken_file(&file, refusal);
         for (i = 0; i < MANY * MANY; i++) {
             struct rng rng = rng_for(20, i);
 
@@ -152,59 +152,43 @@ static void order(void)
 
 /* Cuts each word to the width byte of its record, as far as file and list
    go, so that a file which passes is not always refused by 12. */
-static void cut_board(void)
+static void cut_board(const struct file *damaged)
 {
     size_t i;
 
     for (i = 0; 8 * i + 8 <= lists.board_length
-                && 8 + 24 * i + 24 <= file.length; i++)
+                && 8 + 24 * i + 24 <= damaged->length; i++)
         put_board_word(&lists, (uint32_t)i,
                        board_word(&lists, (uint32_t)i)
-                       & width_mask(width_at(file.bytes, (uint32_t)i)));
+                       & width_mask(width_at(damaged->bytes, (uint32_t)i)));
 }
 
 /* Damaged files: a fourth of each family. Some of them pass. */
-static void try_family(const struct family *family, uint64_t seed,
-                       unsigned long first)
+static void try_damaged(struct rng *rng, const struct file *damaged)
 {
-    unsigned long i;
+    uint64_t check = model_check(damaged->bytes, damaged->length);
 
-    test_begin(family->name);
-    for (i = 0; i < family->files; i += 4) {
-        struct rng rng = rng_for(seed, first + i);
-        uint64_t check;
-
-        family_make(family, &rng, &file);
-        check = model_check(file.bytes, file.length);
-        lists.board_length = family_list(&rng, &file);
-        lists.next_length = lists.board_length;
-        if (rng_once_in(&rng, 4))
-            lists.next_length = family_list(&rng, &file);
-        lists_noise(&lists, &rng);
-        if (rng_once_in(&rng, 2))
-            cut_board();
-        if (PCN_REFUSED(check)) {
-            demand_answer(try_cycle(&file, &lists), check);
-            demand_answer(try_start(&file, &lists), check);
-        } else {
-            try_cycle(&file, &lists);
-            try_start(&file, &lists);
-        }
+    lists.board_length = family_list(rng, damaged);
+    lists.next_length = lists.board_length;
+    if (rng_once_in(rng, 4))
+        lists.next_length = family_list(rng, damaged);
+    lists_noise(&lists, rng);
+    if (rng_once_in(rng, 2))
+        cut_board(damaged);
+    if (PCN_REFUSED(check)) {
+        demand_answer(try_cycle(damaged, &lists), check);
+        demand_answer(try_start(damaged, &lists), check);
+    } else {
+        try_cycle(damaged, &lists);
+        try_start(damaged, &lists);
     }
-    test_end();
 }
 
 void clock_refused(uint64_t seed)
 {
-    unsigned long first = FIRST;
-    int i;
-
     every_length();
     near_lengths();
     before_12();
     order();
-    for (i = 0; i < FAMILIES; i++) {
-        try_family(&families[i], seed, first);
-        first += families[i].files;
-    }
+    try_families(seed, FIRST, 4, try_damaged);
 }

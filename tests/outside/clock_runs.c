@@ -1,15 +1,12 @@
 /* Runs of many cycles on random valid designs: library against model.
    Assumes that design number i depends only on the seed and on i. */
 
-#include <stdio.h>
 #include <string.h>
 
+#include "batches.h"
 #include "clock_coverage.h"
 #include "clock_parts.h"
 #include "clock_trial.h"
-#include "designs.h"
-#include "report.h"
-#include "styles.h"
 #include "trial.h"
 
 enum {
@@ -28,13 +25,6 @@ static struct netlist net;
 static struct file file;
 static struct lists lists;
 static uint8_t before[8 * COUNT_LIMIT];
-static unsigned long made;
-
-/* The generator of the next design. */
-static struct rng next_rng(uint64_t seed)
-{
-    return rng_for(seed, FIRST + made++);
-}
 
 /* A record from a random place on whose word could be too wide, or the
    count. */
@@ -129,74 +119,25 @@ static void run_both(struct rng *rng)
         run(rng, (enum beginning)beginning, cycles_for(rng));
 }
 
-static void plain_designs(uint64_t seed)
+static void run_long(struct rng *rng)
 {
-    int i;
-
-    test_begin("generated: runs of designs with all kinds alike");
-    for (i = 0; i < PLAIN; i++) {
-        struct rng rng = next_rng(seed);
-
-        design_make(&rng, &net, design_count(&rng, 0));
-        run_both(&rng);
-    }
-    test_end();
+    run(rng, FROM_RESET, LONG_CYCLES);
 }
 
-static void styled_designs(uint64_t seed, int style)
-{
-    char name[100];
-    int i;
-
-    sprintf(name, "generated: runs: %.70s", style_names[style]);
-    test_begin(name);
-    for (i = 0; i < OF_STYLE; i++) {
-        struct rng rng = next_rng(seed);
-
-        design_styled(&rng, &net, design_count(&rng, 0), &styles[style]);
-        run_both(&rng);
-    }
-    test_end();
-}
-
-static void full_designs(uint64_t seed)
-{
-    int i;
-
-    test_begin("generated: runs of designs with 2,048 records");
-    for (i = 0; i < FULL; i++) {
-        struct rng rng = next_rng(seed);
-
-        design_styled(&rng, &net, COUNT_LIMIT, &styles[i % STYLES]);
-        run_both(&rng);
-    }
-    test_end();
-}
-
-static void long_runs(uint64_t seed)
-{
-    int i;
-
-    test_begin("generated: runs of 400 cycles from reset");
-    for (i = 0; i < LONG; i++) {
-        struct rng rng = next_rng(seed);
-
-        design_styled(&rng, &net, rng_between(&rng, 5, 60),
-                      &styles[i % STYLES]);
-        run(&rng, FROM_RESET, LONG_CYCLES);
-    }
-    test_end();
-}
+static const struct batch batches[] = {
+    { "generated: runs of designs with all kinds alike", ALL_ALIKE, PLAIN,
+      any_count, 0, run_both },
+    { "generated: runs", EACH_STYLE, OF_STYLE, any_count, 0, run_both },
+    { "generated: runs of designs with 2,048 records", BY_TURNS, FULL, NULL,
+      COUNT_LIMIT, run_both },
+    { "generated: runs of 400 cycles from reset", BY_TURNS, LONG, short_count,
+      0, run_long }
+};
 
 unsigned long clock_runs(uint64_t seed)
 {
-    int style;
+    struct source source = { seed, FIRST, 0, &net };
 
-    made = 0;
-    plain_designs(seed);
-    for (style = 0; style < STYLES; style++)
-        styled_designs(seed, style);
-    full_designs(seed);
-    long_runs(seed);
-    return made;
+    try_batches(&source, batches, sizeof batches / sizeof *batches);
+    return source.made;
 }

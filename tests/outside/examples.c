@@ -21,6 +21,15 @@ const uint8_t ramp_bytes[RAMP_BYTES] = {
     255, 255, 0, 0, 0, 0, 0, 0
 };
 
+const uint64_t ramp_masks[7] = {
+    0xffff, 0xffff, 0xffff, 0xffff, 0xffff, 0xffff, 0xffff
+};
+const uint64_t high_ramp_masks[7] = {
+    0xffff, 0xffff, 0xffff, 0xffff, 0xff00, 0xff, 0xff
+};
+const uint64_t shift_chain_masks[6] = { 1, 0xf, 7, 0xf, 1, 1 };
+const uint64_t unread_mux_masks[4] = { 1, 0, 0, 0 };
+
 void example_ramp(struct netlist *net, uint8_t width, uint64_t k)
 {
     netlist_clear(net);

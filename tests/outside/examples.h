@@ -19,4 +19,12 @@ void example_shift_chain(struct netlist *net);
 void example_swapped_pair(struct netlist *net);
 void example_unread_mux(struct netlist *net);
 
+/* The masks of these: of the ramp with extract of width 16 at 0 and of width
+   8 at 8, and of the others but for the counter and the swapped pair, which
+   have none. */
+extern const uint64_t ramp_masks[7];
+extern const uint64_t high_ramp_masks[7];
+extern const uint64_t shift_chain_masks[6];
+extern const uint64_t unread_mux_masks[4];
+
 #endif

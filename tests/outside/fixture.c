@@ -105,7 +105,7 @@ void adds_break(struct netlist *net, uint32_t number, unsigned refusal)
     }
 }
 
-void adds_broken_file(struct file *file, unsigned refusal)
+uint32_t adds_broken_file(struct file *file, unsigned refusal)
 {
     static struct netlist net;
 
@@ -132,4 +132,5 @@ void adds_broken_file(struct file *file, unsigned refusal)
     default:
         break;
     }
+    return refusal >= 6 ? ADDS_FIRST : 0;
 }

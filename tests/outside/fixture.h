@@ -34,7 +34,7 @@ void adds_make(struct netlist *net);
 void adds_break(struct netlist *net, uint32_t number, unsigned refusal);
 
 /* The file of the adds with one rule from 1 to 10 broken; 6 to 10 are broken
-   in the first add. */
-void adds_broken_file(struct file *file, unsigned refusal);
+   in the first add. Gives the record that the refusal names. */
+uint32_t adds_broken_file(struct file *file, unsigned refusal);
 
 #endif

@@ -47,28 +47,20 @@ static void ramp_in_bytes(void)
 
 static void ramps(void)
 {
-    static const uint64_t low[7] = {
-        0xffff, 0xffff, 0xffff, 0xffff, 0xffff, 0xffff, 0xffff
-    };
-    static const uint64_t high[7] = {
-        0xffff, 0xffff, 0xffff, 0xffff, 0xff00, 0xff, 0xff
-    };
-
     example_ramp(&net, 16, 0);
-    example("masks: ramp", low);
+    example("masks: ramp", ramp_masks);
     example_ramp(&net, 8, 8);
-    example("masks: ramp with extract of width 8 at 8", high);
+    example("masks: ramp with extract of width 8 at 8", high_ramp_masks);
 }
 
 static void clocked_designs(void)
 {
     static const uint64_t nothing[3] = { 0, 0, 0 };
-    static const uint64_t chain[6] = { 1, 0xf, 7, 0xf, 1, 1 };
 
     example_counter(&net);
     example("masks: counter without output", nothing);
     example_shift_chain(&net);
-    example("masks: shift chain", chain);
+    example("masks: shift chain", shift_chain_masks);
     example_swapped_pair(&net);
     example("masks: two registers that read each other and nobody else",
             nothing);
@@ -89,12 +81,10 @@ static void counts(void)
 
 void masks_examples(void)
 {
-    static const uint64_t selector[4] = { 1, 0, 0, 0 };
-
     ramp_in_bytes();
     ramps();
     clocked_designs();
     example_unread_mux(&net);
-    example("masks: a mux that nobody reads", selector);
+    example("masks: a mux that nobody reads", unread_mux_masks);
     counts();
 }

@@ -12,6 +12,7 @@
 #include "guard.h"
 #include "masks_parts.h"
 #include "masks_trial.h"
+#include "placings.h"
 #include "report.h"
 #include "trial.h"
 
@@ -36,6 +37,17 @@ static void make_file(uint64_t index, uint32_t count)
                                list_length);
 }
 
+static struct lent lend(unsigned long in_list, unsigned long in_next)
+{
+    static uint8_t list[LIST_ROOM];
+    struct lent lent = { file.bytes, file.length, list, list_length, NULL,
+                         0 };
+
+    (void)in_next;
+    fill_bytes(list, list_length, in_list);
+    return lent;
+}
+
 static void demand_list(const uint8_t *list, uint64_t answer)
 {
     demand_answer(answer, right_answer);
@@ -43,58 +55,14 @@ static void demand_list(const uint8_t *list, uint64_t answer)
         printf("      the list is not the right one\n");
 }
 
-static void try_placing(const struct placing *placing)
+static void demand_lent(const struct lent *lent, uint64_t answer)
 {
-    static uint8_t list[LIST_ROOM];
-    struct lent lent = { file.bytes, file.length, list, list_length, NULL,
-                         0 };
-    uint64_t answer = 0;
-
-    fill_bytes(list, list_length, placing->list_away);
-    if (!guarded_call(library_masks, &lent, placing, &answer) && test_fail())
-        printf("      stepped outside with %lu bytes, edge %d, %lu and %lu"
-               " away\n", (unsigned long)file.length, (int)placing->edge,
-               (unsigned long)placing->file_away,
-               (unsigned long)placing->list_away);
-    demand_list(list, answer);
+    demand_list(lent->list, answer);
 }
 
-static void forbidden_pages(void)
-{
-    static const struct placing end = { AT_END, 0, 0, 0 };
-    static const struct placing front = { AT_FRONT, 0, 0, 0 };
-    uint32_t count;
-
-    test_begin("masks: nothing before or behind file and list is touched");
-    for (count = 0; count < 200; count++) {
-        make_file(count, count);
-        try_placing(&end);
-        try_placing(&front);
-    }
-    make_file(200, COUNT_LIMIT);
-    try_placing(&end);
-    try_placing(&front);
-    test_end();
-}
-
-static void alignments(void)
-{
-    static const enum edge edges[2] = { AT_END, AT_FRONT };
-    struct placing placing = { AT_END, 0, 0, 0 };
-    int i;
-
-    test_begin("masks: file and list may begin at any address");
-    make_file(201, 50);
-    for (i = 0; i < 2; i++) {
-        placing.edge = edges[i];
-        for (placing.file_away = 0; placing.file_away < 16;
-             placing.file_away++)
-            for (placing.list_away = 0; placing.list_away < 16;
-                 placing.list_away++)
-                try_placing(&placing);
-    }
-    test_end();
-}
+static const struct subject subject = {
+    library_masks, make_file, lend, demand_lent
+};
 
 /* File and list in one block without a gap, either of them first; both can
    be written here, so a change of the file would show and not trap. */
@@ -177,8 +145,10 @@ static void huge_lengths(void)
 
 void masks_memory(void)
 {
-    forbidden_pages();
-    alignments();
+    try_forbidden(&subject,
+                  "masks: nothing before or behind file and list is touched");
+    try_alignments(&subject, "masks: file and list may begin at any address",
+                   201, 50);
     neighbours();
     old_contents();
     huge_lengths();

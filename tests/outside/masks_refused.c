@@ -2,6 +2,7 @@
    Assumes that each trial looks whether the list is as it was. */
 
 #include "../../include/pcn.h"
+#include "damaged.h"
 #include "designs.h"
 #include "families.h"
 #include "fixture.h"
@@ -9,6 +10,8 @@
 #include "masks_trial.h"
 #include "report.h"
 #include "trial.h"
+
+enum { FIRST = 1000000 };
 
 static struct netlist net;
 static struct file file;
@@ -59,9 +62,8 @@ static void order(void)
 
     test_begin("1 to 10: go before 11, and the list stays as it was");
     for (refusal = 1; refusal <= 10; refusal++) {
-        uint32_t record = refusal >= 6 ? ADDS_FIRST : 0;
+        uint32_t record = adds_broken_file(&file, refusal);
 
-        adds_broken_file(&file, refusal);
         for (i = 0; i < sizeof lists / sizeof *lists; i++)
             demand_answer(try_masks(file.bytes, file.length, lists[i]),
                           refused_answer(refusal, record));
@@ -70,36 +72,21 @@ static void order(void)
 }
 
 /* Damaged files, as pcn_check gets them: a third of each family. */
-static void try_family(const struct family *family, uint64_t seed,
-                       unsigned long first)
+static void try_damaged(struct rng *rng, const struct file *damaged)
 {
-    unsigned long i;
+    uint64_t answer = try_masks(damaged->bytes, damaged->length,
+                                family_list(rng, damaged));
+    uint64_t check = pcn_check(damaged->bytes, damaged->length);
 
-    test_begin(family->name);
-    for (i = 0; i < family->files; i += 3) {
-        struct rng rng = rng_for(seed, first + i);
-        uint64_t check, answer;
-
-        family_make(family, &rng, &file);
-        answer = try_masks(file.bytes, file.length, family_list(&rng, &file));
-        check = pcn_check(file.bytes, file.length);
-        if (PCN_REFUSED(check))
-            demand_answer(answer, check);
-        else if (PCN_REFUSED(answer))
-            demand_answer(answer, refused_answer(11, 0));
-    }
-    test_end();
+    if (PCN_REFUSED(check))
+        demand_answer(answer, check);
+    else if (PCN_REFUSED(answer))
+        demand_answer(answer, refused_answer(11, 0));
 }
 
 void masks_refused(uint64_t seed)
 {
-    unsigned long first = 1000000;
-    int i;
-
     every_length();
     order();
-    for (i = 0; i < FAMILIES; i++) {
-        try_family(&families[i], seed, first);
-        first += families[i].files;
-    }
+    try_families(seed, FIRST, 3, try_damaged);
 }

@@ -1,14 +1,15 @@
-/* Three parts of memory in one block without a gap, in any order.
-   Assumes that the block holds nothing else. */
+/* Named tests with file and both lists in one block without a gap.
+   Assumes an operation that accepts every case of its subject. */
 
 #ifndef NEIGHBOURS_H
 #define NEIGHBOURS_H
 
-#include <stddef.h>
+#include "subject.h"
 
-enum { ORDERS = 6 };
-
-/* Where parts of these three lengths begin, in one of their orders. */
-void place_three(int order, const size_t *lengths, size_t *places);
+/* Designs of 0 to 99 records, their cases numbered from `first` on, with file
+   and lists in each order. All three can be written here, so a change of the
+   file, or of one list through the other, shows and does not trap. */
+void try_neighbours(const struct subject *subject, const char *name,
+                    uint64_t first);
 
 #endif

@@ -1,14 +1,12 @@
 /* Random valid designs in several styles, a first run and four second ones.
    Assumes that design number i depends only on the seed and on i. */
 
-#include <stdio.h>
-
+#include "batches.h"
 #include "designs.h"
 #include "report.h"
 #include "runs_coverage.h"
 #include "runs_pair.h"
 #include "runs_parts.h"
-#include "styles.h"
 
 enum {
     FIRST = 8000000, /* apart from the numbers of other tests */
@@ -22,20 +20,21 @@ enum {
 };
 
 static struct design design;
-static unsigned long made;
-
-/* The generator of the next design. */
-static struct rng next_rng(uint64_t seed)
-{
-    return rng_for(seed, FIRST + made++);
-}
 
 /* As design_count, but with fewer of the longest, whose runs take so long. */
-static uint32_t count_for(struct rng *rng)
+static uint32_t fewer_long(struct rng *rng, int i)
 {
     uint32_t count = design_count(rng, 0);
 
+    (void)i;
     return count <= 600 || rng_once_in(rng, 4) ? count : count % 600;
+}
+
+/* Each count from 0 to 6 in all styles. */
+static uint32_t small_count(struct rng *rng, int i)
+{
+    (void)rng;
+    return (uint32_t)i / STYLES % 7;
 }
 
 /* Fewer calls for longer designs. */
@@ -48,84 +47,20 @@ static unsigned calls_for(struct rng *rng)
     return design.net.count <= 600 ? 6 : 4;
 }
 
-static void try_design(struct rng *rng, unsigned calls)
+static void try_calls(struct rng *rng, unsigned calls)
 {
     design_trim(&design);
     try_pairs(&design, rng, calls);
 }
 
-static void plain_designs(uint64_t seed)
+static void try_design(struct rng *rng)
 {
-    int i;
-
-    test_begin("generated: pairs: designs with all kinds alike");
-    for (i = 0; i < PLAIN; i++) {
-        struct rng rng = next_rng(seed);
-
-        design_make(&rng, &design.net, count_for(&rng));
-        try_design(&rng, calls_for(&rng));
-    }
-    test_end();
+    try_calls(rng, calls_for(rng));
 }
 
-static void styled_designs(uint64_t seed, int style)
+static void try_long(struct rng *rng)
 {
-    char name[100];
-    int i;
-
-    sprintf(name, "generated: pairs: %.70s", style_names[style]);
-    test_begin(name);
-    for (i = 0; i < OF_STYLE; i++) {
-        struct rng rng = next_rng(seed);
-
-        design_styled(&rng, &design.net, count_for(&rng), &styles[style]);
-        try_design(&rng, calls_for(&rng));
-    }
-    test_end();
-}
-
-static void full_designs(uint64_t seed)
-{
-    int i;
-
-    test_begin("generated: pairs: designs with 2,048 records");
-    for (i = 0; i < FULL; i++) {
-        struct rng rng = next_rng(seed);
-
-        design_styled(&rng, &design.net, COUNT_LIMIT, &styles[i % STYLES]);
-        try_design(&rng, calls_for(&rng));
-    }
-    test_end();
-}
-
-static void small_designs(uint64_t seed)
-{
-    int i;
-
-    test_begin("generated: pairs: designs with 0 to 6 records");
-    for (i = 0; i < SMALL; i++) {
-        struct rng rng = next_rng(seed);
-
-        design_styled(&rng, &design.net, (uint32_t)i / STYLES % 7,
-                      &styles[i % STYLES]);
-        try_design(&rng, calls_for(&rng));
-    }
-    test_end();
-}
-
-static void long_runs(uint64_t seed)
-{
-    int i;
-
-    test_begin("generated: pairs: 300 calls, most of them cycles");
-    for (i = 0; i < LONG; i++) {
-        struct rng rng = next_rng(seed);
-
-        design_styled(&rng, &design.net, rng_between(&rng, 5, 60),
-                      &styles[i % STYLES]);
-        try_design(&rng, LONG_CALLS);
-    }
-    test_end();
+    try_calls(rng, LONG_CALLS);
 }
 
 /* Registers in a row, each of which reads the next one, an input at the end
@@ -148,32 +83,38 @@ static void make_chain(struct rng *rng, uint32_t registers)
     netlist_output(net, 0, design_word(rng, width));
 }
 
-static void chains(uint64_t seed)
+static void chains(struct source *source)
 {
     uint32_t registers;
 
     test_begin("generated: pairs: chains of 1 to 80 registers, run through");
     for (registers = 1; registers <= MOST_REGISTERS; registers++) {
-        struct rng rng = next_rng(seed);
+        struct rng rng = next_rng(source);
 
         make_chain(&rng, registers);
-        try_design(&rng, 2 * registers + 10);
+        try_calls(&rng, 2 * registers + 10);
     }
     test_end();
 }
 
+static const struct batch batches[] = {
+    { "generated: pairs: designs with all kinds alike", ALL_ALIKE, PLAIN,
+      fewer_long, 0, try_design },
+    { "generated: pairs", EACH_STYLE, OF_STYLE, fewer_long, 0, try_design },
+    { "generated: pairs: designs with 2,048 records", BY_TURNS, FULL, NULL,
+      COUNT_LIMIT, try_design },
+    { "generated: pairs: designs with 0 to 6 records", BY_TURNS, SMALL,
+      small_count, 0, try_design },
+    { "generated: pairs: 300 calls, most of them cycles", BY_TURNS, LONG,
+      short_count, 0, try_long }
+};
+
 unsigned long runs_pairs(uint64_t seed)
 {
-    int style;
+    struct source source = { seed, FIRST, 0, &design.net };
 
-    made = 0;
-    plain_designs(seed);
-    for (style = 0; style < STYLES; style++)
-        styled_designs(seed, style);
-    full_designs(seed);
-    small_designs(seed);
-    long_runs(seed);
-    chains(seed);
+    try_batches(&source, batches, sizeof batches / sizeof *batches);
+    chains(&source);
     runs_coverage_judge();
-    return made;
+    return source.made;
 }

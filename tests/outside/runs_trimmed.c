@@ -4,12 +4,11 @@
 #include <inttypes.h>
 #include <stdio.h>
 
-#include "designs.h"
+#include "batches.h"
 #include "report.h"
 #include "runs_calls.h"
 #include "runs_design.h"
 #include "runs_parts.h"
-#include "styles.h"
 #include "trial.h"
 
 enum {
@@ -23,15 +22,10 @@ enum {
 
 static struct design design;
 static struct run original, trimmed;
-static unsigned long made;
+static struct source source;
 
 /* Designs with a changed keep word, and with an output that was not 0. */
 static unsigned long cut, not_zero;
-
-static struct rng next_rng(uint64_t seed)
-{
-    return rng_for(seed, FIRST + made++);
-}
 
 static void fail(uint32_t number)
 {
@@ -65,15 +59,16 @@ static int compare(void)
     return met;
 }
 
-static void try_design(struct rng *rng, unsigned cycles)
+static void try_cycles(struct rng *rng, unsigned cycles)
 {
     static uint64_t words[COUNT_LIMIT];
     int met = 0;
     uint32_t i;
 
     design_trim(&design);
-    run_begin(&original, &design.net, &design.file, rng_for(1, made));
-    run_begin(&trimmed, &design.net, &design.trimmed, rng_for(2, made));
+    run_begin(&original, &design.net, &design.file, rng_for(1, source.made));
+    run_begin(&trimmed, &design.net, &design.trimmed,
+              rng_for(2, source.made));
     run_start(&original);
     run_start(&trimmed);
     while (original.cycles < cycles) {
@@ -87,51 +82,35 @@ static void try_design(struct rng *rng, unsigned cycles)
     not_zero += (unsigned long)met;
 }
 
-static void styled_designs(uint64_t seed, int style)
+static void try_design(struct rng *rng)
 {
-    char name[100];
-    int i;
-
-    sprintf(name, "generated: trimmed: %.70s", style_names[style]);
-    test_begin(name);
-    for (i = 0; i < OF_STYLE; i++) {
-        struct rng rng = next_rng(seed);
-
-        design_styled(&rng, &design.net, design_count(&rng, 0),
-                      &styles[style]);
-        try_design(&rng, design.net.count <= 100 ? 40 : 6);
-    }
-    test_end();
+    try_cycles(rng, design.net.count <= 100 ? 40 : 6);
 }
 
-static void long_runs(uint64_t seed)
+static void try_long(struct rng *rng)
 {
-    int i;
-
-    test_begin("generated: trimmed: 1,000 cycles from reset");
-    for (i = 0; i < LONG; i++) {
-        struct rng rng = next_rng(seed);
-
-        design_styled(&rng, &design.net, rng_between(&rng, 5, 60),
-                      &styles[i % STYLES]);
-        try_design(&rng, LONG_CYCLES);
-    }
-    test_end();
+    try_cycles(rng, LONG_CYCLES);
 }
 
 unsigned long runs_trimmed(uint64_t seed)
 {
-    int style;
+    static const struct batch batches[2] = {
+        { "generated: trimmed", EACH_STYLE, OF_STYLE, any_count, 0,
+          try_design },
+        { "generated: trimmed: 1,000 cycles from reset", BY_TURNS, LONG,
+          short_count, 0, try_long }
+    };
 
-    made = 0;
-    for (style = 0; style < STYLES; style++)
-        styled_designs(seed, style);
-    long_runs(seed);
+    source.seed = seed;
+    source.first = FIRST;
+    source.made = 0;
+    source.net = &design.net;
+    try_batches(&source, batches, 2);
     test_begin("coverage: trimmed files that differ, outputs that are not 0");
     printf("      of %lu designs trimming changed %lu, and %lu had an output"
-           " that was not 0\n", made, cut, not_zero);
+           " that was not 0\n", source.made, cut, not_zero);
     if (cut < LEAST_CUT || not_zero < LEAST_NOT_ZERO)
         test_fail();
     test_end();
-    return made;
+    return source.made;
 }

@@ -111,12 +111,6 @@ static void refusals_in_bytes(void)
 
 static void ramps(void)
 {
-    static const uint64_t low[7] = {
-        0xffff, 0xffff, 0xffff, 0xffff, 0xffff, 0xffff, 0xffff
-    };
-    static const uint64_t high[7] = {
-        0xffff, 0xffff, 0xffff, 0xffff, 0xff00, 0xff, 0xff
-    };
     static const uint8_t high_trimmed[] = {
         HEADER(7),
         RECORD(0, 32, 0, 0, 0, 0), KEEP(255, 255),
@@ -129,10 +123,10 @@ static void ramps(void)
     };
 
     example_ramp(&net, 16, 0);
-    example("trim: ramp", 0x000000c000000070u, low, ramp_trimmed);
+    example("trim: ramp", 0x000000c000000070u, ramp_masks, ramp_trimmed);
     example_ramp(&net, 8, 8);
     example("trim: ramp with extract of width 8 at 8", 0x000000b000000058u,
-            high, high_trimmed);
+            high_ramp_masks, high_trimmed);
 }
 
 static void clocked_designs(void)
@@ -144,7 +138,6 @@ static void clocked_designs(void)
         RECORD(1, 8, 0, 0, 0, 1), KEEP(0, 0),
         RECORD(10, 8, 0, 1, 0, 0), KEEP(0, 0)
     };
-    static const uint64_t all[6] = { 1, 0xf, 7, 0xf, 1, 1 };
     static const uint8_t chain[] = {
         HEADER(6),
         RECORD(0, 1, 0, 0, 0, 0), KEEP(1, 0),
@@ -159,13 +152,12 @@ static void clocked_designs(void)
     example("trim: counter without output, nothing is left",
             0x0000001800000000u, nothing, counter);
     example_shift_chain(&net);
-    example("trim: shift chain, all is left", 0x0000000e0000000eu, all,
-            chain);
+    example("trim: shift chain, all is left", 0x0000000e0000000eu,
+            shift_chain_masks, chain);
 }
 
 static void unread_mux(void)
 {
-    static const uint64_t selector[4] = { 1, 0, 0, 0 };
     static const uint8_t trimmed[] = {
         HEADER(4),
         RECORD(0, 1, 0, 0, 0, 0), KEEP(1, 0),
@@ -175,8 +167,8 @@ static void unread_mux(void)
     };
 
     example_unread_mux(&net);
-    example("trim: a mux that nobody reads", 0x0000001900000001u, selector,
-            trimmed);
+    example("trim: a mux that nobody reads", 0x0000001900000001u,
+            unread_mux_masks, trimmed);
 }
 
 static void no_records(void)

@@ -1,11 +1,7 @@
 /* Random valid designs in several styles: trims of library against model.
    Assumes that design number i depends only on the seed and on i. */
 
-#include <stdio.h>
-
-#include "designs.h"
-#include "report.h"
-#include "styles.h"
+#include "batches.h"
 #include "trial.h"
 #include "trim_coverage.h"
 #include "trim_parts.h"
@@ -20,82 +16,35 @@ enum {
 };
 
 static struct netlist net;
-static unsigned long made;
 
-/* The generator of the next design. */
-static struct rng next_rng(uint64_t seed)
-{
-    return rng_for(seed, FIRST + made++);
-}
-
-static void try_design(void)
+static void try_design(struct rng *rng)
 {
     uint64_t answer = try_trim_netlist(&net);
 
+    (void)rng;
     demand_answer(answer >> 63, 0);
     trim_note_answer(answer);
     trim_note(&net, trim_left());
 }
 
-static void plain_designs(uint64_t seed)
-{
-    int i;
-
-    test_begin("generated: trims of designs with all kinds alike");
-    for (i = 0; i < PLAIN; i++) {
-        struct rng rng = next_rng(seed);
-
-        design_make(&rng, &net, design_count(&rng, 0));
-        try_design();
-    }
-    test_end();
-}
-
-static void styled_designs(uint64_t seed, int style)
-{
-    char name[100];
-    int i;
-
-    sprintf(name, "generated: trims: %.70s", style_names[style]);
-    test_begin(name);
-    for (i = 0; i < OF_STYLE; i++) {
-        struct rng rng = next_rng(seed);
-
-        design_styled(&rng, &net, design_count(&rng, 0), &styles[style]);
-        try_design();
-    }
-    test_end();
-}
-
-/* Designs of just so many records, in all styles by turns. */
-static void designs_of(uint64_t seed, const char *name, uint32_t count,
-                       int designs)
-{
-    int i;
-
-    test_begin(name);
-    for (i = 0; i < designs; i++) {
-        struct rng rng = next_rng(seed);
-
-        design_styled(&rng, &net, count, &styles[i % STYLES]);
-        try_design();
-    }
-    test_end();
-}
+static const struct batch batches[] = {
+    { "generated: trims of designs with all kinds alike", ALL_ALIKE, PLAIN,
+      any_count, 0, try_design },
+    { "generated: trims", EACH_STYLE, OF_STYLE, any_count, 0, try_design },
+    { "generated: trims of designs without records", BY_TURNS, 1, NULL, 0,
+      try_design },
+    { "generated: trims of designs with one record", BY_TURNS, SMALL, NULL, 1,
+      try_design },
+    { "generated: trims of designs with two records", BY_TURNS, SMALL, NULL,
+      2, try_design },
+    { "generated: trims of designs with 2,048 records", BY_TURNS, FULL, NULL,
+      COUNT_LIMIT, try_design }
+};
 
 unsigned long trim_generated(uint64_t seed)
 {
-    int style;
+    struct source source = { seed, FIRST, 0, &net };
 
-    made = 0;
-    plain_designs(seed);
-    for (style = 0; style < STYLES; style++)
-        styled_designs(seed, style);
-    designs_of(seed, "generated: trims of designs without records", 0, 1);
-    designs_of(seed, "generated: trims of designs with one record", 1, SMALL);
-    designs_of(seed, "generated: trims of designs with two records", 2,
-               SMALL);
-    designs_of(seed, "generated: trims of designs with 2,048 records",
-               COUNT_LIMIT, FULL);
-    return made;
+    try_batches(&source, batches, sizeof batches / sizeof *batches);
+    return source.made;
 }

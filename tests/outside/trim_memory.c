@@ -2,7 +2,6 @@
    Assumes a system that can map more than 4 GiB of untouched memory. */
 
 #include <stdio.h>
-#include <stdlib.h>
 #include <string.h>
 
 #include "../../include/pcn.h"
@@ -10,6 +9,7 @@
 #include "designs.h"
 #include "guard.h"
 #include "neighbours.h"
+#include "placings.h"
 #include "report.h"
 #include "trial.h"
 #include "trim_parts.h"
@@ -17,8 +17,7 @@
 
 enum {
     LIST_ROOM = 8 * COUNT_LIMIT,
-    LONGEST = HEADER_BYTES + RECORD_BYTES * COUNT_LIMIT,
-    PLACES = 16
+    LONGEST = HEADER_BYTES + RECORD_BYTES * COUNT_LIMIT
 };
 
 static struct netlist net;
@@ -45,6 +44,16 @@ static void make_file(uint64_t index, uint32_t count)
                               list_length, right_destination, file.length);
 }
 
+static struct lent lend(unsigned long in_list, unsigned long in_destination)
+{
+    struct lent lent = { file.bytes, file.length, list, list_length,
+                         destination, file.length };
+
+    fill_bytes(list, list_length, in_list);
+    fill_bytes(destination, file.length, in_destination);
+    return lent;
+}
+
 static void demand_bytes(const uint8_t *masks, const uint8_t *trimmed,
                          uint64_t answer)
 {
@@ -55,98 +64,14 @@ static void demand_bytes(const uint8_t *masks, const uint8_t *trimmed,
         printf("      the destination is not the right one\n");
 }
 
-static void try_placing(const struct placing *placing)
+static void demand_lent(const struct lent *lent, uint64_t answer)
 {
-    struct lent lent = { file.bytes, file.length, list, list_length,
-                         destination, file.length };
-    uint64_t answer = 0;
-
-    fill_bytes(list, list_length, placing->list_away);
-    fill_bytes(destination, file.length, placing->next_away);
-    if (!guarded_call(library_trim, &lent, placing, &answer) && test_fail())
-        printf("      stepped outside at edge %d, with %lu, %lu and %lu"
-               " bytes away\n", (int)placing->edge,
-               (unsigned long)placing->file_away,
-               (unsigned long)placing->list_away,
-               (unsigned long)placing->next_away);
-    demand_bytes(list, destination, answer);
+    demand_bytes(lent->list, lent->next, answer);
 }
 
-static void forbidden_pages(void)
-{
-    static const struct placing end = { AT_END, 0, 0, 0 };
-    static const struct placing front = { AT_FRONT, 0, 0, 0 };
-    uint32_t count;
-
-    test_begin("trim: nothing before or behind the lent memory is touched");
-    for (count = 0; count < 200; count++) {
-        make_file(count, count);
-        try_placing(&end);
-        try_placing(&front);
-    }
-    make_file(200, COUNT_LIMIT);
-    try_placing(&end);
-    try_placing(&front);
-    test_end();
-}
-
-static void alignments(void)
-{
-    static const enum edge edges[2] = { AT_END, AT_FRONT };
-    struct placing placing;
-    unsigned i;
-
-    test_begin("trim: file, list and destination may begin at any address");
-    make_file(201, 20);
-    for (i = 0; i < 2 * PLACES * PLACES * PLACES; i++) {
-        placing.edge = edges[i % 2];
-        placing.file_away = i / 2 % PLACES;
-        placing.list_away = i / 2 / PLACES % PLACES;
-        placing.next_away = i / 2 / PLACES / PLACES;
-        try_placing(&placing);
-    }
-    test_end();
-}
-
-/* All three can be written here, so a change of the file, or of the list
-   through the destination, would show and not trap. */
-static void try_order(int order)
-{
-    size_t lengths[3], places[3];
-    uint8_t *block, *bytes, *masks, *trimmed;
-
-    lengths[0] = lengths[2] = file.length;
-    lengths[1] = list_length;
-    place_three(order, lengths, places);
-    block = malloc(2 * file.length + list_length);
-    if (block == NULL)
-        exit(2);
-    bytes = block + places[0];
-    masks = block + places[1];
-    trimmed = block + places[2];
-    memcpy(bytes, file.bytes, file.length);
-    fill_bytes(masks, list_length, 1);
-    fill_bytes(trimmed, file.length, 2);
-    demand_bytes(masks, trimmed, pcn_trim(bytes, file.length, masks,
-                                          list_length, trimmed, file.length));
-    if (memcmp(bytes, file.bytes, file.length) != 0 && test_fail())
-        printf("      the file was changed\n");
-    free(block);
-}
-
-static void neighbours(void)
-{
-    uint32_t count;
-    int order;
-
-    test_begin("trim: file, list and destination right beside each other");
-    for (count = 0; count < 100; count++) {
-        make_file(300 + count, count);
-        for (order = 0; order < ORDERS; order++)
-            try_order(order);
-    }
-    test_end();
-}
+static const struct subject subject = {
+    library_trim, make_file, lend, demand_lent
+};
 
 /* What list and destination held before must not find its way into either;
    the last two are the right results and the file itself. */
@@ -244,9 +169,14 @@ static void huge_lengths(void)
 
 void trim_memory(void)
 {
-    forbidden_pages();
-    alignments();
-    neighbours();
+    try_forbidden(&subject,
+                  "trim: nothing before or behind the lent memory is touched");
+    try_alignments(&subject,
+                   "trim: file, list and destination may begin at any address",
+                   201, 20);
+    try_neighbours(&subject,
+                   "trim: file, list and destination right beside each other",
+                   300);
     old_contents();
     calls_in_turn();
     huge_lengths();

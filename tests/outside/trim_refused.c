@@ -2,6 +2,7 @@
    Assumes that each trial looks whether list and destination are as before. */
 
 #include "../../include/pcn.h"
+#include "damaged.h"
 #include "designs.h"
 #include "families.h"
 #include "fixture.h"
@@ -105,9 +106,8 @@ static void order(void)
 
     test_begin("1 to 10: go before 11 and 13, and nothing lent changes");
     for (refusal = 1; refusal <= 10; refusal++) {
-        uint32_t record = refusal >= 6 ? ADDS_FIRST : 0;
+        uint32_t record = adds_broken_file(&file, refusal);
 
-        adds_broken_file(&file, refusal);
         for (i = 0; i < SOME * MANY; i++)
             expect_trim_answer(&file, lists[i / MANY], destinations[i % MANY],
                                refused_answer(refusal, record));
@@ -146,76 +146,62 @@ static void one_by_one(void)
 
 /* The length of a destination for a damaged file: its own, or one near it,
    or the one that its header announces. */
-static size_t family_destination(struct rng *rng)
+static size_t family_destination(struct rng *rng, const struct file *damaged)
 {
-    size_t announced = file.length < 8 ? 8 : read_16(file.bytes + 6);
+    size_t length = damaged->length;
+    size_t announced = length < 8 ? 8 : read_16(damaged->bytes + 6);
 
     switch (rng_below(rng, 8)) {
     case 0:
         return 0;
     case 1:
-        return file.length + rng_between(rng, 1, 48);
+        return length + rng_between(rng, 1, 48);
     case 2:
-        return file.length / 2;
+        return length / 2;
     case 3:
-        return file.length < 24 ? 24 : file.length - 24;
+        return length < 24 ? 24 : length - 24;
     case 4:
         return HEADER_BYTES + RECORD_BYTES * announced;
     default:
-        return file.length;
+        return length;
     }
 }
 
 /* The answer that the check and the two lengths demand; true when they demand
    that the call be accepted. */
-static int demanded(size_t list, size_t destination, uint64_t *answer)
+static int demanded(const struct file *damaged, size_t list,
+                    size_t destination, uint64_t *answer)
 {
-    *answer = pcn_check(file.bytes, file.length);
+    *answer = pcn_check(damaged->bytes, damaged->length);
     if (PCN_REFUSED(*answer))
         return 0;
     if (list != 8 * *answer)
         *answer = refused_answer(11, 0);
-    else if (destination != file.length)
+    else if (destination != damaged->length)
         *answer = refused_answer(13, 0);
     return !PCN_REFUSED(*answer);
 }
 
 /* Damaged files, as pcn_check gets them: a fourth of each family. */
-static void try_family(const struct family *family, uint64_t seed,
-                       unsigned long first)
+static void try_damaged(struct rng *rng, const struct file *damaged)
 {
-    unsigned long i;
+    size_t list = family_list(rng, damaged);
+    size_t destination = family_destination(rng, damaged);
+    uint64_t answer = try_trim(damaged, list, destination);
+    uint64_t right;
 
-    test_begin(family->name);
-    for (i = 0; i < family->files; i += 4) {
-        struct rng rng = rng_for(seed, first + i);
-        size_t list, destination;
-        uint64_t answer, right;
-
-        family_make(family, &rng, &file);
-        list = family_list(&rng, &file);
-        destination = family_destination(&rng);
-        answer = try_trim(&file, list, destination);
-        trim_note_answer(answer);
-        if (demanded(list, destination, &right))
-            demand_answer(answer >> 63, 0);
-        else
-            demand_answer(answer, right);
-    }
-    test_end();
+    trim_note_answer(answer);
+    if (demanded(damaged, list, destination, &right))
+        demand_answer(answer >> 63, 0);
+    else
+        demand_answer(answer, right);
 }
 
 void trim_refused(uint64_t seed)
 {
-    unsigned long first = FIRST;
-    int i;
-
     every_two();
     near_lengths();
     order();
     one_by_one();
-    for (i = 0; i < FAMILIES; i++) {
-        try_family(&families[i], seed, first);
-        first += families[i].files;
-    }
+    try_families(seed, FIRST, 4, try_damaged);
 }

@@ -1,23 +1,15 @@
 -- `desktop::masking::fill_buffer` meets its contract: the front of a local list, short or long, and the buffer are filled.
 -- Assumes nothing.
-use mathlib.Core.Path.{_≡_, sym, ap, _∙_}
-use Prim.Native.Nat.{ℕ, _*_, _≤_}
-use lib.ListN.{length}
+use mathlib.Core.Path.{sym, _∙_}
+use Prim.Native.Nat.{_≤_}
 use lib.Seq.{length-take-le}
 use borrow.Author.Needs.{needs}
 use denote.Ref.{now}
-use Rattle.netlist.specs.Layout.{countOf}
+use Rattle.endian.proofs.ListLaws.{in-bytes}
 use Rattle.netlist.specs.Limits.{maxCount}
 use Rattle.rules.proofs.Acceptance.{few, with-count}
 use Rattle.desktop.proofs.masking.fill_buffer.Statement.{statement}
 use Rattle.desktop.proofs.masking.fill_buffer.Tie as tie
-
--- a list of n words is as long as the file asks, and an eighth of the buffer
-sized : (s : tie.Start) {m : ℕ} → m ≡ s .args .n → m ≡ countOf (now (s .args .file))
-sized s l = l ∙ s .pre .0 .count
-
-eighth : (s : tie.Start) {m : ℕ} → m ≡ s .args .n → length (now (s .args .buffer)) ≡ 8 * m
-eighth s l = s .pre .1 ∙ ap (λ (n : ℕ). 8 * n) (sym l)
 
 room : (s : tie.Start) → s .args .n ≤ maxCount
 room s = few (now (s .args .file)) (s .args .n) (s .pre .0)
@@ -29,7 +21,7 @@ slice-aggregate-fill-both : tie.Need-slice-aggregate-fill-both
 slice-aggregate-fill-both c = sym (length-take-le (c .before .before .before .before .args .n) _ (c .before .if1 .taken))
 
 fill-both-requires : tie.Need-fill-both-requires
-fill-both-requires c κs = let s = c .before .before .before .before .before in let l = length-take-le (s .args .n) _ (c .before .before .if1 .taken) in (with-count (s .pre .0), sized s l, eighth s l)
+fill-both-requires c κs = let s = c .before .before .before .before .before in let l = length-take-le (s .args .n) _ (c .before .before .if1 .taken) in (with-count (s .pre .0), l ∙ s .pre .0 .count, in-bytes (s .pre .1) l)
 
 same-length : tie.Need-same-length
 same-length c = search needs
@@ -44,7 +36,7 @@ slice-aggregate-fill-both-2 : tie.Need-slice-aggregate-fill-both-2
 slice-aggregate-fill-both-2 c = let s = c .before .before .before .before in sym (length-take-le (s .args .n) _ (room s))
 
 fill-both-requires-2 : tie.Need-fill-both-requires-2
-fill-both-requires-2 c κs = let s = c .before .before .before .before .before in let l = length-take-le (s .args .n) _ (room s) in (with-count (s .pre .0), sized s l, eighth s l)
+fill-both-requires-2 c κs = let s = c .before .before .before .before .before in let l = length-take-le (s .args .n) _ (room s) in (with-count (s .pre .0), l ∙ s .pre .0 .count, in-bytes (s .pre .1) l)
 
 same-length-2 : tie.Need-same-length-2
 same-length-2 c = search needs

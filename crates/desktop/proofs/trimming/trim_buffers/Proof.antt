@@ -1,23 +1,15 @@
 -- `desktop::trimming::trim_buffers` meets its contract: the front of a local list, short or long, is as long as the file has records.
 -- Assumes nothing.
-use mathlib.Core.Path.{_≡_, sym, ap, _∙_}
-use Prim.Native.Nat.{ℕ, _*_, _≤_}
-use lib.ListN.{length}
+use mathlib.Core.Path.{sym, _∙_}
+use Prim.Native.Nat.{_≤_}
 use lib.Seq.{length-take-le}
 use borrow.Author.Needs.{needs}
 use denote.Ref.{now}
-use Rattle.netlist.specs.Layout.{countOf}
+use Rattle.endian.proofs.ListLaws.{in-bytes}
 use Rattle.netlist.specs.Limits.{maxCount}
 use Rattle.rules.proofs.Acceptance.{few, with-count}
 use Rattle.desktop.proofs.trimming.trim_buffers.Statement.{statement}
 use Rattle.desktop.proofs.trimming.trim_buffers.Tie as tie
-
--- a list of n words is as long as the file asks, and an eighth of the buffer
-sized : (s : tie.Start) {m : ℕ} → m ≡ s .args .n → m ≡ countOf (now (s .args .file))
-sized s l = l ∙ s .pre .0 .count
-
-eighth : (s : tie.Start) {m : ℕ} → m ≡ s .args .n → length (now (s .args .masks)) ≡ 8 * m
-eighth s l = s .pre .1 ∙ ap (λ (n : ℕ). 8 * n) (sym l)
 
 room : (s : tie.Start) → s .args .n ≤ maxCount
 room s = few (now (s .args .file)) (s .args .n) (s .pre .0)
@@ -29,7 +21,7 @@ slice-aggregate-trim-all : tie.Need-slice-aggregate-trim-all
 slice-aggregate-trim-all c = sym (length-take-le (c .before .before .before .before .before .args .n) _ (c .before .if1 .taken))
 
 trim-all-requires : tie.Need-trim-all-requires
-trim-all-requires c κs = let s = c .before .before .before .before .before .before .before in let l = length-take-le (s .args .n) _ (c .before .before .before .if1 .taken) in (with-count (s .pre .0), sized s l, eighth s l, s .pre .2)
+trim-all-requires c κs = let s = c .before .before .before .before .before .before .before in let l = length-take-le (s .args .n) _ (c .before .before .before .if1 .taken) in (with-count (s .pre .0), l ∙ s .pre .0 .count, in-bytes (s .pre .1) l, s .pre .2)
 
 same-length : tie.Need-same-length
 same-length c = search needs
@@ -47,7 +39,7 @@ slice-aggregate-trim-all-2 : tie.Need-slice-aggregate-trim-all-2
 slice-aggregate-trim-all-2 c = let s = c .before .before .before .before .before in sym (length-take-le (s .args .n) _ (room s))
 
 trim-all-requires-2 : tie.Need-trim-all-requires-2
-trim-all-requires-2 c κs = let s = c .before .before .before .before .before .before .before in let l = length-take-le (s .args .n) _ (room s) in (with-count (s .pre .0), sized s l, eighth s l, s .pre .2)
+trim-all-requires-2 c κs = let s = c .before .before .before .before .before .before .before in let l = length-take-le (s .args .n) _ (room s) in (with-count (s .pre .0), l ∙ s .pre .0 .count, in-bytes (s .pre .1) l, s .pre .2)
 
 same-length-3 : tie.Need-same-length-3
 same-length-3 c = search needs

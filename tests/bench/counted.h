@@ -1,0 +1,11 @@
+/* The one place where the benchmark makes a call that is to be counted.
+   Assumes that callgrind is told to collect within `counted` alone. */
+
+#ifndef COUNTED_H
+#define COUNTED_H
+
+#include "../outside/lent.h"
+
+uint64_t counted(operation *call, const struct lent *lent);
+
+#endif
