@@ -9,10 +9,10 @@ PROGRAM = target/bin/masks
 PREFIX ?= /usr/local
 INSTALLED = $(DESTDIR)$(PREFIX)
 
-.PHONY: program sample library port test bench bench-write fuzz install uninstall
+.PHONY: program sample library port test bench bench-write fuzz fuzz-wrong install uninstall
 
 # How long `make fuzz` searches, and from which seed.
-SECONDS = 3600
+SECONDS = 20
 SEED = 1
 
 # Two runs of rt at the same time would write the same files.
@@ -44,6 +44,10 @@ bench-write: library port
 
 fuzz: library port
 	@tests/fuzz/run $(SECONDS) $(SEED)
+
+# Shows that the fuzz run finds each of many wrong models.
+fuzz-wrong: library port
+	@tests/fuzz/wrong
 
 # Installed, the library has its header's name, so that a C program links with -lpcn.
 install: program library

@@ -136,7 +136,7 @@ static int margins_kept(const struct area *area, size_t offset, size_t length)
     size_t i;
 
     for (i = 1; i <= before; i++)
-        if (list[0 - i] != MARGIN_BYTE)
+        if (*(list - i) != MARGIN_BYTE)
             return 0;
     for (i = 0; i < behind; i++)
         if (list[length + i] != MARGIN_BYTE)

@@ -1,0 +1,219 @@
+/* Counts refusals and kinds, and tells libFuzzer which cases an input met.
+   Assumes libFuzzer's section for counters beside those of its coverage. */
+
+#include "seen.h"
+
+#include <stdio.h>
+#include <stdlib.h>
+#include <string.h>
+
+#include "../../include/pcn.h"
+#include "../model/record.h"
+#include "../outside/netlist.h"
+#include "fault.h"
+
+enum { REFUSALS = 13, AMOUNTS = 3 };
+
+/* The cases, each a byte. An input that meets a case for the first time is
+   kept, as one is that reaches new code of the model: the model is short, and
+   its code alone would not tell an add that reads a mux from one that reads
+   an input. */
+enum {
+    REFUSED_KIND = 0, /* refusal number, kind of the record or of none */
+    CARED = REFUSED_KIND + (REFUSALS + 1) * (KIND_COUNT + 1),
+                      /* kind, ones in its mask, ones in its keep word */
+    VALUED = CARED + KIND_COUNT * AMOUNTS * AMOUNTS,
+                      /* kind, ones in a value */
+    /* The others are of records that have a bit cared for and kept. */
+    ASKED = VALUED + KIND_COUNT * AMOUNTS,
+                      /* kind, which operand, kind of that operand */
+    WIDE = ASKED + KIND_COUNT * 3 * KIND_COUNT,
+                      /* kind, width; that of a where the width is always 1 */
+    HIGHEST = WIDE + KIND_COUNT * WIDTH_LIMIT,
+                      /* for sums and the like: the highest bit asked for */
+    PLACE = HIGHEST + WIDTH_LIMIT,
+                      /* for extract: k */
+    LOW = PLACE + WIDTH_LIMIT,
+                      /* for concat: the width of b */
+    CASES = LOW + WIDTH_LIMIT
+};
+
+static uint8_t cases[CASES]
+    __attribute__((section("__libfuzzer_extra_counters")));
+
+static unsigned long tried;
+static struct {
+    unsigned long inputs;
+    unsigned long accepted;
+    unsigned long cleared;
+    unsigned long cycles;
+    unsigned long differed;
+    unsigned long refused[REFUSALS + 1];
+    unsigned long kinds[KIND_COUNT];
+} counts;
+
+static void write_counts(void)
+{
+    FILE *out = fopen(getenv("PCN_FUZZ_COUNTS"), "w");
+    unsigned i;
+
+    if (out == NULL) {
+        perror("PCN_FUZZ_COUNTS");
+        return;
+    }
+    fprintf(out, "inputs %lu\n", counts.inputs);
+    fprintf(out, "accepted %lu\n", counts.accepted);
+    fprintf(out, "cleared %lu\n", counts.cleared);
+    fprintf(out, "cycles %lu\n", counts.cycles);
+    fprintf(out, "differed %lu\n", counts.differed);
+    for (i = 1; i <= REFUSALS; i++)
+        fprintf(out, "refused %u %lu\n", i, counts.refused[i]);
+    for (i = 0; i < KIND_COUNT; i++)
+        fprintf(out, "kind %u %lu\n", i, counts.kinds[i]);
+    fclose(out);
+}
+
+void seen_begin(void)
+{
+    if (getenv("PCN_FUZZ_COUNTS") != NULL)
+        atexit(write_counts);
+}
+
+void seen_search(void)
+{
+    static int searching;
+
+    if (!searching)
+        memset(&counts, 0, sizeof counts);
+    searching = 1;
+}
+
+void seen_input(void)
+{
+    counts.inputs++;
+    fault_at_input(++tried);
+}
+
+/* The kind byte of the record that was refused. KIND_COUNT stands for one
+   that is no kind, and for refusals that name no record. */
+static unsigned refused_kind(const uint8_t *file, uint64_t answer)
+{
+    unsigned refusal = PCN_REFUSAL(answer);
+    unsigned kind;
+
+    if (refusal < PCN_BAD_KIND || refusal == PCN_BAD_LIST
+        || refusal == PCN_BAD_DESTINATION)
+        return KIND_COUNT;
+    kind = kind_at(file, PCN_RECORD(answer));
+    return kind < KIND_COUNT ? kind : KIND_COUNT;
+}
+
+void seen_refused(const uint8_t *file, uint64_t answer)
+{
+    unsigned refusal = PCN_REFUSAL(answer);
+
+    counts.refused[refusal]++;
+    cases[REFUSED_KIND + refusal * (KIND_COUNT + 1)
+          + refused_kind(file, answer)] = 1;
+}
+
+void seen_checked(const uint8_t *file, uint64_t answer)
+{
+    uint8_t met[KIND_COUNT] = { 0 };
+    uint32_t i;
+
+    if (PCN_REFUSED(answer)) {
+        seen_refused(file, answer);
+        return;
+    }
+    counts.accepted++;
+    for (i = 0; i < (uint32_t)answer; i++)
+        met[kind_at(file, i)] = 1;
+    for (i = 0; i < KIND_COUNT; i++)
+        counts.kinds[i] += met[i];
+}
+
+/* None of the bits within the width, some, or all. */
+static unsigned amount(uint64_t bits, unsigned width)
+{
+    return bits == 0 ? 0 : bits == width_mask(width) ? 2 : 1;
+}
+
+static unsigned highest(uint64_t bits)
+{
+    unsigned bit = 0;
+
+    while (bits >>= 1)
+        bit++;
+    return bit;
+}
+
+/* The widths and places at which a record is at work; `d` is not 0. */
+static void note_places(const uint8_t *file, const struct record *record,
+                        uint64_t d)
+{
+    unsigned width = record->width;
+
+    switch (record->kind) {
+    case KIND_EXTRACT:
+        cases[PLACE + record->k] = 1;
+        break;
+    case KIND_CONCAT:
+        cases[LOW + width_at(file, record->operand[1])] = 1;
+        break;
+    case KIND_ADD:
+    case KIND_SUB:
+    case KIND_MUL:
+        cases[HIGHEST + highest(d)] = 1;
+        break;
+    case KIND_EQUAL:
+    case KIND_BELOW:
+        width = width_at(file, record->operand[0]);
+        break;
+    default:
+        break;
+    }
+    cases[WIDE + record->kind * WIDTH_LIMIT + width - 1] = 1;
+}
+
+static void note_record(const uint8_t *file, const struct record *record,
+                        uint64_t mask)
+{
+    unsigned kind = record->kind;
+    unsigned i;
+
+    cases[CARED + (kind * AMOUNTS + amount(mask, record->width)) * AMOUNTS
+          + amount(record->keep, record->width)] = 1;
+    if ((mask & record->keep) == 0)
+        return;
+    note_places(file, record, mask & record->keep);
+    for (i = 0; i < kind_operands(record->kind); i++)
+        cases[ASKED + (kind * 3 + i) * KIND_COUNT
+              + kind_at(file, record->operand[i])] = 1;
+}
+
+void seen_masks(const uint8_t *file, const uint8_t *masks, int cleared)
+{
+    uint32_t count = read_16(file + 6);
+    uint32_t i;
+
+    counts.cleared += (unsigned long)cleared;
+    for (i = 0; i < count; i++) {
+        struct record record = read_record(file, i);
+
+        note_record(file, &record, read_64(masks + 8 * (size_t)i));
+    }
+}
+
+void seen_values(const uint8_t *file, const uint8_t *values, int differed)
+{
+    uint32_t count = read_16(file + 6);
+    uint32_t i;
+
+    counts.cycles++;
+    counts.differed += (unsigned long)differed;
+    for (i = 0; i < count; i++)
+        cases[VALUED + kind_at(file, i) * AMOUNTS
+              + amount(read_64(values + 8 * (size_t)i),
+                       width_at(file, i))] = 1;
+}
