@@ -19,10 +19,10 @@ int refused_width(const uint8_t *file, size_t length)
 /* The bits that are not cared for, or -1 when the mask list does not fit and
    -2 when the file itself is refused. */
 long uncared_bits(const uint8_t *file, size_t length, uint8_t *masks,
-                 size_t masks_length);
+                  size_t masks_length);
 
 long uncared_bits(const uint8_t *file, size_t length, uint8_t *masks,
-                 size_t masks_length)
+                  size_t masks_length)
 {
     uint64_t answer = pcn_masks(file, length, masks, masks_length);
 

@@ -48,8 +48,8 @@ pub fn width_in_range(w: u64) -> bool
     1 <= w && w <= Record::MAX_WIDTH
 }
 
-// The width rule of the kind with a number, for a record of width w whose operands have the widths wa, wb and wc. Tests of ranges are
-// foreseen better than a jump by the number.
+// The width rule of the kind with a number, for a record of width w whose operands have the widths wa, wb and wc. The processor
+// predicts tests of ranges better than a jump by the number.
 pub fn widths_fit(code: u64, fields: Fields, w: u64, wa: u64, wb: u64, wc: u64) -> bool
     requires { ⌜ code < kindCount ⌝ }
     ensures { λ r. ⌜ r ≡ testAll (widthRules (kindOf code fields) w wa wb wc) ⌝ }

@@ -20,6 +20,8 @@ ghost use Rattle.rules.specs.Sound.{Acceptance};
 // One byte more than the longest file: enough to refuse what is longer.
 const INPUT: usize = HEADER + RECORD * Record::MAX_COUNT + 1;
 
+// Each function that prints answers whether all was written. Once a write has failed nothing more is printed, since a line with a gap could
+// show the mask of another record.
 fn print_space() -> bool {
     io::write_all(STDOUT_FILENO, b" ")
 }
@@ -28,8 +30,6 @@ fn print_newline() -> bool {
     io::write_all(STDOUT_FILENO, b"\n")
 }
 
-// Each function here answers whether all was written. Once a write has failed nothing more is printed, since a line with a gap could show
-// the mask of another record.
 fn print_refusal(refusal: Refusal, record: usize) -> bool {
     io::write_all(STDOUT_FILENO, b"refused ")
         && (io::print_decimal(STDOUT_FILENO, refusal.number())

@@ -1,6 +1,5 @@
 // A record of a netlist: its kind with the operands that the kind uses, and beside it the width and the keep word.
-// What the code knows of a kind stands here, in `fit` (the width rules, the number of an output), in `result` and in `demand`. Nothing is asked of
-// a caller but by `of_source` and `of_single`, which want a kind of theirs.
+// Nothing is asked of a caller. What else the code knows of a kind stands in `fit` (the width rules, the number of an output), `result` and `demand`.
 ghost use mathlib.Core.Path.{_≡_};
 ghost use mathlib.Core.Bool.{cond};
 ghost use Prim.Native.Nat.{_≤_, _<_};
@@ -137,7 +136,7 @@ impl Role {
 
 impl Uses {
     // What the kind with a number uses. The kinds are ordered by their operands: first those with none, then those with one, and only a
-    // mux has three. The tests of ranges below are foreseen better than a jump by the number would be.
+    // mux has three. The processor predicts tests of ranges better than a jump by the number.
     pub fn new(code: u64, fields: Fields) -> Uses
         ensures { λ r. ⌜ r ≡ usesOf (kindOf code fields) ⌝ }
     {
@@ -157,7 +156,7 @@ impl Uses {
     }
 
     // What an input or a constant uses, the kinds with no operand.
-    pub fn of_source(code: u64, fields: Fields) -> Uses
+    fn of_source(code: u64, fields: Fields) -> Uses
         requires { ⌜ code < 2 ⌝ }
         ensures { λ r. ⌜ r ≡ usesOf (kindOf code fields) ⌝ }
     {
@@ -169,7 +168,7 @@ impl Uses {
     }
 
     // What a register, an output or an extract uses, the kinds with one operand.
-    pub fn of_single(code: u64, fields: Fields) -> Uses
+    fn of_single(code: u64, fields: Fields) -> Uses
         requires { ⌜ (2 ≤ code) × (code < 5) ⌝ }
         ensures { λ r. ⌜ r ≡ usesOf (kindOf code fields) ⌝ }
     {
@@ -210,7 +209,7 @@ impl Uses {
         }
     }
 
-    pub fn two(a: usize, b: usize) -> Uses
+    fn two(a: usize, b: usize) -> Uses
         ensures { λ r. ⌜ r ≡ two a b ⌝ }
     {
         Uses {
@@ -224,7 +223,7 @@ impl Uses {
         }
     }
 
-    pub fn three(a: usize, b: usize, c: usize) -> Uses
+    fn three(a: usize, b: usize, c: usize) -> Uses
         ensures { λ r. ⌜ r ≡ three a b c ⌝ }
     {
         Uses {
