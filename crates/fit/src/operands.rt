@@ -1,6 +1,7 @@
 // The tests of a record's operands.
 // `names` and `operands_fit` ask that the records below the limit lie within the file.
 use netlist::layout::code_at;
+use netlist::record::Record;
 use netlist::record::Role;
 use netlist::record::Uses;
 ghost use mathlib.Core.Path.{_≡_};
@@ -24,12 +25,12 @@ pub fn operand_limit(role: Role, n: usize, i: usize) -> usize
     }
 }
 
-// An operand lies below the limit and names no output, whose number is 3.
+// An operand lies below the limit and names no output.
 fn names(file: &[u8], limit: usize, j: usize) -> bool
     requires { ⌜ recordStart limit ≤ length (now file) ⌝ }
     ensures { λ r. ⌜ r ≡ testAll (below j limit ∷ isNot (isOutput (roleAt (designOf (now (file .entry))) j)) ∷ []) ⌝ }
 {
-    j < limit && code_at(file, j) != 3
+    j < limit && code_at(file, j) != Record::OUTPUT
 }
 
 pub fn operands_fit(file: &[u8], limit: usize, uses: Uses) -> bool

@@ -54,22 +54,22 @@ pub fn widths_fit(code: u64, fields: Fields, w: u64, wa: u64, wb: u64, wc: u64) 
     requires { ⌜ code < kindCount ⌝ }
     ensures { λ r. ⌜ r ≡ testAll (widthRules (kindOf code fields) w wa wb wc) ⌝ }
 {
-    if code < 2 {
+    if code < Record::REGISTER {
         return true;
     }
-    if code < 4 {
+    if code < Record::EXTRACT {
         return one_equal(wa, w);
     }
-    if code == 4 {
+    if code == Record::EXTRACT {
         return sum_at_most(fields.k, w, wa);
     }
-    if code == 5 {
+    if code == Record::CONCAT {
         return sum_equal(wa, wb, w);
     }
-    if code == 9 {
+    if code == Record::MUX {
         return three_equal(wa, 1, wb, w, wc, w);
     }
-    if code < 13 {
+    if code < Record::EQUAL {
         return both_equal(wa, w, wb, w);
     }
     both_equal(wa, wb, w, 1)

@@ -69,6 +69,20 @@ impl Record {
 
     pub const KINDS: u64 = 15;
 
+    // Numbers of kinds that the code tests. The kinds are ordered by their operands: those below the register have none, those below the
+    // concat have one, and of the others only the mux has three.
+    pub const REGISTER: u64 = 2;
+
+    pub const OUTPUT: u64 = 3;
+
+    pub const EXTRACT: u64 = 4;
+
+    pub const CONCAT: u64 = 5;
+
+    pub const MUX: u64 = 9;
+
+    pub const EQUAL: u64 = 13;
+
     // The record that a kind's number, a width, the four fields and a keep word make.
     pub fn new(code: u64, width: u64, fields: Fields, keep: u64) -> Record
         ensures { λ r. ⌜ r ≡ record { kind = kindOf code fields; width = width; keep = keep } ⌝ }
@@ -135,18 +149,17 @@ impl Role {
 }
 
 impl Uses {
-    // What the kind with a number uses. The kinds are ordered by their operands: first those with none, then those with one, and only a
-    // mux has three. The processor predicts tests of ranges better than a jump by the number.
+    // What the kind with a number uses. The processor predicts tests of ranges better than a jump by the number.
     pub fn new(code: u64, fields: Fields) -> Uses
         ensures { λ r. ⌜ r ≡ usesOf (kindOf code fields) ⌝ }
     {
-        if code < 2 {
+        if code < Record::REGISTER {
             return Uses::of_source(code, fields);
         }
-        if code < 5 {
+        if code < Record::CONCAT {
             return Uses::of_single(code, fields);
         }
-        if code == 9 {
+        if code == Record::MUX {
             return Uses::three(fields.a, fields.b, fields.c);
         }
         if code < Record::KINDS {
