@@ -3,15 +3,13 @@
 use netlist::layout::role_at;
 use netlist::record::Role;
 ghost use mathlib.Core.Path.{_≡_};
-ghost use Prim.Native.Nat.{_<_};
-ghost use lib.ListN.{length};
-ghost use Rattle.netlist.specs.Layout.{designOf, countOf, roleAt};
-ghost use Rattle.rules.specs.Sound.{Acceptance};
+ghost use Rattle.netlist.specs.Layout.{designOf, roleAt};
+ghost use Rattle.rules.specs.Lent.{Lent, LentAt};
 ghost use Rattle.clock.specs.Values.{nextWord, nextOf};
 
 // The word of record i after a cycle: the value of a register's a, and 0 for another.
 fn next_word(file: &[u8], values: &[u64], i: usize) -> u64
-    requires { ⌜ Acceptance (now file) (countOf (now file)) × (i < countOf (now file)) × (length (now values) ≡ countOf (now file)) ⌝ }
+    requires { ⌜ LentAt (now file) (now values) i ⌝ }
     ensures { λ r. ⌜ r ≡ nextWord (now (values .entry)) (roleAt (designOf (now (file .entry))) i) ⌝ }
 {
     let role = role_at(file, i);
@@ -25,7 +23,7 @@ fn next_word(file: &[u8], values: &[u64], i: usize) -> u64
 
 // Fills a list with the words after a cycle that gave these values.
 pub fn load(file: &[u8], values: &[u64], list: &mut [u64])
-    requires { ⌜ Acceptance (now file) (countOf (now file)) × (length (now values) ≡ countOf (now file)) × (length (now list) ≡ countOf (now file)) ⌝ }
+    requires { ⌜ Lent (now file) (now values) × Lent (now file) (now list) ⌝ }
     ensures { λ r. ⌜ now (list .exit) ≡ nextOf (designOf (now (file .entry))) (now (values .entry)) ⌝ }
 {
     let mut i: usize = 0;

@@ -5,8 +5,8 @@ use netlist::record::Role;
 ghost use mathlib.Core.Path.{_≡_};
 ghost use Prim.Native.Nat.{_+_, _≤_};
 ghost use lib.ListN.{length};
-ghost use Rattle.netlist.specs.Layout.{designOf, countOf, recordStart, recordSize, roleAt};
-ghost use Rattle.rules.specs.Sound.{Acceptance};
+ghost use Rattle.netlist.specs.Layout.{designOf, recordStart, recordSize, roleAt};
+ghost use Rattle.rules.specs.Lent.{Lent};
 ghost use Rattle.clock.specs.Values.{startWord, startOf};
 
 // The word of record i after a start: a register's reset state, and 0 for another.
@@ -25,7 +25,7 @@ fn start_word(file: &[u8], i: usize) -> u64
 
 // Fills a list with the words after a start.
 pub fn reset(file: &[u8], list: &mut [u64])
-    requires { ⌜ Acceptance (now file) (countOf (now file)) × (length (now list) ≡ countOf (now file)) ⌝ }
+    requires { ⌜ Lent (now file) (now list) ⌝ }
     ensures { λ r. ⌜ now (list .exit) ≡ startOf (designOf (now (file .entry))) ⌝ }
 {
     let mut i: usize = 0;

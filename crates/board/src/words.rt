@@ -5,28 +5,31 @@ use netlist::layout::role_at;
 use netlist::layout::width_at;
 use netlist::record::Role;
 ghost use mathlib.Core.Path.{_≡_};
-ghost use Prim.Native.Nat.{_<_};
-ghost use lib.ListN.{length};
-ghost use Rattle.netlist.specs.Layout.{designOf, countOf};
-ghost use Rattle.rules.specs.Sound.{Acceptance};
-ghost use Rattle.clock.specs.Call.{wordIsWide, isWide};
+ghost use Rattle.netlist.specs.Kinds.{isHeld};
+ghost use Rattle.netlist.specs.Layout.{designOf};
+ghost use Rattle.rules.specs.Lent.{LentAt};
+ghost use Rattle.clock.specs.Call.{isWide};
 
-// Whether a word that counts before a cycle has a bit at its width w or above.
-fn word_is_wide(role: Role, word: u64, w: u64) -> bool
-    ensures { λ r. ⌜ r ≡ wordIsWide role word w ⌝ }
+// Whether a cycle takes the word at a record of this role from the board list.
+fn is_held(role: Role) -> bool
+    ensures { λ r. ⌜ r ≡ isHeld role ⌝ }
 {
     match role {
-        Role::Input => shr(word, w) != 0,
-        Role::Register { a: _, k: _ } => shr(word, w) != 0,
+        Role::Input => true,
+        Role::Register { a: _, k: _ } => true,
         Role::Output => false,
         Role::Gate => false,
     }
 }
 
-// Whether record i has such a word.
+// Whether a cycle takes a word from record i that has a bit at its width or above. The word is looked at before the role: it is hardly ever too
+// wide, where roles come in no order that a processor could foresee.
 pub fn is_wide(file: &[u8], board: &[u64], i: usize) -> bool
-    requires { ⌜ Acceptance (now file) (countOf (now file)) × (i < countOf (now file)) × (length (now board) ≡ countOf (now file)) ⌝ }
+    requires { ⌜ LentAt (now file) (now board) i ⌝ }
     ensures { λ r. ⌜ r ≡ isWide (designOf (now (file .entry))) (now (board .entry)) i ⌝ }
 {
-    word_is_wide(role_at(file, i), board[i], width_at(file, i))
+    if shr(board[i], width_at(file, i)) == 0 {
+        return false;
+    }
+    is_held(role_at(file, i))
 }

@@ -1,18 +1,17 @@
 -- Laws of states: the words of the lists after a start and after a cycle, and that a cycle can go on from them.
 -- Assumes nothing.
-use mathlib.Core.Path.{_≡_, refl, sym, ap, subst, _∙_}
+use mathlib.Core.Path.{_≡_, refl, sym, ap, subst}
 use mathlib.Core.Bool.{false, not}
 use mathlib.Core.List.{List}
 use Prim.Native.Nat.{ℕ, _^_, _<_}
-use lib.ListN.{length}
 use lib.Pow.{pow-pos}
 use borrow.Author.Tests.{lt-ltb}
 use Rattle.endian.specs.Lists.{wordAt}
-use Rattle.endian.proofs.ListLaws.{length-words, word-at}
-use Rattle.netlist.specs.Layout.{Design, designOf, roleAt}
+use Rattle.endian.proofs.ListLaws.{word-at}
+use Rattle.netlist.specs.Layout.{Design, roleAt}
 use Rattle.netlist.specs.declared.record.Role.{Role}
 use Rattle.netlist.specs.declared.record.Role.the-variants.{Input, Register, Output, Gate}
-use Rattle.rules.specs.Sound.{Sound, Acceptance}
+use Rattle.rules.specs.Sound.{Sound}
 use Rattle.rules.proofs.SoundLaws.{register-loads}
 use Rattle.clock.specs.Call.{wordIsWide, isWide}
 use Rattle.clock.specs.Values.{nextWord, nextOf, startWord, startOf}
@@ -26,11 +25,6 @@ start-word d i h = word-at (λ j. startWord (roleAt d j)) (d .count) i h
 pub next-word : (d : Design) (values : List ℕ) (i : ℕ) → i < d .count → wordAt (nextOf d values) i ≡ nextWord values (roleAt d i)
 unfolding nextOf
 next-word d values i h = word-at (λ j. nextWord values (roleAt d j)) (d .count) i h
-
--- a list that holds the words after a start of an accepted file has a word for each record
-pub start-length : (file : List ℕ) (n : ℕ) → Acceptance file n → {list : List ℕ} → list ≡ startOf (designOf file) → length list ≡ n
-unfolding startOf designOf
-start-length file n a e = ap length e ∙ length-words _ _ ∙ sym (a .count)
 
 -- ---- no word is too wide for the cycle that follows
 

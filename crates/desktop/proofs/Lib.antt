@@ -1,4 +1,3 @@
--- What the functions of the desktop cite, that answers and sizes of buffers fit their numbers; and that C gets what the operations give.
+-- What the functions of the desktop cite: a call on a buffer of bytes is the operation's on a list of words that stands for it.
 -- Assumes nothing.
-pub mod AnswerLaws
-pub mod Promises
+pub mod WordLaws

@@ -1,8 +1,7 @@
 // The check of a file, for C.
 // Nothing is asked of a caller in Rattle.
-use answer::refused;
+use answer::of_checked;
 use checker::check;
-use rules::Checked;
 ghost use mathlib.Core.Path.{_≡_};
 ghost use Rattle.rules.specs.Check.{checkOf};
 ghost use Rattle.answer.specs.Answer.{checkAnswer};
@@ -12,8 +11,5 @@ ghost use Rattle.answer.specs.Answer.{checkAnswer};
 pub extern "C" fn pcn_check(file: &[u8]) -> u64
     ensures { λ r. ⌜ r ≡ checkAnswer (checkOf (now (file .entry))) ⌝ }
 {
-    match check(file) {
-        Checked::Accepted(n) => n as u64,
-        Checked::Refused(r, i) => refused(r.number(), i as u64),
-    }
+    of_checked(check(file))
 }

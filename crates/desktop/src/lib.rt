@@ -3,3 +3,4 @@
 pub mod checking;
 pub mod masking;
 pub mod trimming;
+pub mod words;

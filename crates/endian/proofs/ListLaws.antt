@@ -102,7 +102,3 @@ module _ (front rest : List ℕ) {n : ℕ} (e : length front ≡ n) where
 
   pub taken-length : n ≡ length (take n (front ++ rest))
   taken-length = sym (ap length front-taken ∙ e)
-
--- as many words as an eighth of the bytes
-pub in-bytes : {b m n : ℕ} → b ≡ 8 * n → m ≡ n → b ≡ 8 * m
-in-bytes e l = e ∙ ap (λ (k : ℕ). 8 * k) (sym l)

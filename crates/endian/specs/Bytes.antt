@@ -3,7 +3,6 @@
 use Prim.Native.Nat.{ℕ, zero, suc, _+_, _*_, _/_, _%_}
 use mathlib.Core.List.{List, [], _∷_, _++_}
 use lib.ListN.{getD}
-use Rattle.endian.specs.Lists.{wordsOf}
 
 -- "Numbers are little-endian": the number in the `size` bytes from `at` on.
 abbrev pub numberAt : List ℕ → ℕ → ℕ → ℕ
@@ -14,10 +13,6 @@ numberAt s at (suc size) = getD s at 0 + 256 * numberAt s (suc at) size
 abbrev pub bytes : ℕ → ℕ → List ℕ
 bytes zero v = []
 bytes (suc size) v = v % 256 ∷ bytes size (v / 256)
-
--- The first n words of 64 bits in a list of bytes.
-unfoldable pub wordsIn : List ℕ → ℕ → List ℕ
-wordsIn s n = wordsOf (λ i. numberAt s (8 * i) 8) n
 
 -- The bytes of a list of words of 64 bits.
 unfoldable pub wordBytes : List ℕ → List ℕ

@@ -4,10 +4,7 @@ ghost use mathlib.Core.Path.{_≡_};
 ghost use mathlib.Core.List.{_++_};
 ghost use Prim.Native.Nat.{_+_, _*_, _≤_, _<_, _^_};
 ghost use lib.ListN.{length, drop};
-ghost use Rattle.endian.specs.Bytes.{numberAt, bytes, wordsIn, wordBytes};
-
-// Lists of so few words are worked on in an array of this length, which takes less time to clear than one for the longest list.
-pub const SHORT_LIST: usize = 256;
+ghost use Rattle.endian.specs.Bytes.{numberAt, bytes, wordBytes};
 
 // A byte as a word.
 fn wide(x: u8) -> u64
@@ -47,18 +44,6 @@ pub fn read_64(s: &[u8], at: usize) -> u64
     let low = read_32(s, at);
     let high = read_32(s, at + 4);
     low + 4294967296 * high
-}
-
-// Reads a list of words, 8 bytes each.
-pub fn read_words(words: &mut [u64], s: &[u8])
-    requires { ⌜ length (now s) ≡ 8 * length (now words) ⌝ }
-    ensures { λ r. ⌜ now (words .exit) ≡ wordsIn (now (s .entry)) (length (now (words .entry))) ⌝ }
-{
-    let mut i: usize = 0;
-    while i < words.len() {
-        words[i] = read_64(s, 8 * i);
-        i += 1;
-    }
 }
 
 // Writes v into the first 8 bytes of d.

@@ -13,9 +13,9 @@ use rules::Checked;
 use sweep::raise;
 ghost use mathlib.Core.Path.{_≡_};
 ghost use Prim.Native.Nat.{_≤_, _<_};
-ghost use lib.ListN.{length};
 ghost use Rattle.endian.specs.Lists.{wordsOf};
 ghost use Rattle.netlist.specs.Layout.{designOf, countOf};
+ghost use Rattle.rules.specs.Lent.{Lent};
 ghost use Rattle.rules.specs.Sound.{Acceptance};
 ghost use Rattle.care.specs.Call.{tallyOf, masksCall};
 ghost use Rattle.care.specs.Least.{outputSeed, seedOf, masksOf};
@@ -45,7 +45,7 @@ fn seed_at(file: &[u8], i: usize) -> u64
 
 // Fills a list with the seed.
 fn seed(file: &[u8], list: &mut [u64])
-    requires { ⌜ Acceptance (now file) (countOf (now file)) × (length (now list) ≡ countOf (now file)) ⌝ }
+    requires { ⌜ Lent (now file) (now list) ⌝ }
     ensures { λ r. ⌜ now (list .exit) ≡ wordsOf (outputSeed (designOf (now (file .entry)))) (countOf (now (file .entry))) ⌝ }
 {
     let mut i: usize = 0;
@@ -57,7 +57,7 @@ fn seed(file: &[u8], list: &mut [u64])
 
 // Fills a list with the masks of an accepted file.
 pub fn fill(file: &[u8], list: &mut [u64]) -> Tally
-    requires { ⌜ Acceptance (now file) (countOf (now file)) × (length (now list) ≡ countOf (now file)) ⌝ }
+    requires { ⌜ Lent (now file) (now list) ⌝ }
     ensures tally { λ r. ⌜ r ≡ tallyOf (designOf (now (file .entry))) (masksOf (designOf (now (file .entry)))) ⌝ }
     ensures list { λ r. ⌜ now (list .exit) ≡ masksOf (designOf (now (file .entry))) ⌝ }
 {

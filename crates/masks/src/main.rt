@@ -12,9 +12,7 @@ use netlist::layout::width_at;
 use netlist::record::Record;
 use netlist::refusal::Refusal;
 use rules::Checked;
-ghost use mathlib.Core.Path.{_≡_};
-ghost use lib.ListN.{length};
-ghost use Rattle.netlist.specs.Layout.{countOf};
+ghost use Rattle.rules.specs.Lent.{Lent};
 ghost use Rattle.rules.specs.Sound.{Acceptance};
 
 // One byte more than the longest file: enough to refuse what is longer.
@@ -55,7 +53,7 @@ fn print_mask(i: usize, width: u64, mask: u64) -> bool {
 
 // A line for each record.
 fn print_masks(file: &[u8], list: &[u64]) -> bool
-    requires { ⌜ Acceptance (now file) (countOf (now file)) × (length (now list) ≡ countOf (now file)) ⌝ }
+    requires { ⌜ Lent (now file) (now list) ⌝ }
 {
     let mut i: usize = 0;
     while i < list.len() {

@@ -14,11 +14,10 @@ ghost use mathlib.Core.Bool.{cond};
 ghost use mathlib.Core.Path.{_≡_};
 ghost use Prim.Native.Nat.{_+_, _*_, _^_, _≤_, _<_};
 ghost use lib.Dec.{eqb, ltb};
-ghost use lib.ListN.{length};
 ghost use Rattle.endian.specs.Lists.{wordAt};
 ghost use Rattle.bits.specs.Words.{cut, productAt};
-ghost use Rattle.netlist.specs.Layout.{designOf, countOf};
-ghost use Rattle.rules.specs.Sound.{Acceptance};
+ghost use Rattle.netlist.specs.Layout.{designOf};
+ghost use Rattle.rules.specs.Lent.{LentAt};
 ghost use Rattle.signal.specs.Results.{resultOf, resultAt};
 
 // x above the n bits of y, in w bits.
@@ -82,7 +81,7 @@ fn result_of(kind: Kind, w: u64, wb: u64, own: u64, x: u64, y: u64, z: u64) -> u
 // The result of record i on a board where its operands have their values. A field that its kind has no use for is 0, so all three are read
 // before the kind is looked at.
 pub fn result_at(file: &[u8], board: &[u64], i: usize) -> u64
-    requires { ⌜ Acceptance (now file) (countOf (now file)) × (i < countOf (now file)) × (length (now board) ≡ countOf (now file)) ⌝ }
+    requires { ⌜ LentAt (now file) (now board) i ⌝ }
     ensures { λ r. ⌜ r ≡ resultAt (designOf (now (file .entry)) .at) (wordAt (now (board .entry))) i ⌝ }
 {
     let record = record_at(file, i);

@@ -13,6 +13,7 @@ use Rattle.netlist.specs.declared.refusal.Refusal.{Refusal}
 use Rattle.rules.specs.Fit.{wordRules}
 use Rattle.rules.specs.Check.{checkOf, checkFrom, refuseAt, firstBroken, headerRules, recordRules}
 use Rattle.rules.specs.Sound.{Acceptance}
+use Rattle.rules.specs.Lent.{Lent}
 use Rattle.rules.specs.declared.Checked.{Checked}
 use Rattle.rules.specs.declared.Checked.the-variants.{Accepted, Refused}
 use Rattle.rules.specs.declared.Verdict.{Verdict}
@@ -101,6 +102,10 @@ accepted file n e =
 -- an accepted file may be spoken of with its own count
 pub with-count : {file : List ℕ} {n : ℕ} → Acceptance file n → Acceptance file (countOf file)
 with-count {file} a = subst (Acceptance file) (a .count) a
+
+-- and with a list of as many words
+pub lent : {file list : List ℕ} {n : ℕ} → Acceptance file n → length list ≡ n → Lent file list
+lent a e = record { accepted = with-count a; size = e ∙ a .count }
 
 -- an accepted file has no more records than the limit
 pub few : (file : List ℕ) (n : ℕ) → Acceptance file n → n ≤ maxCount

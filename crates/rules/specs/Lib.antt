@@ -1,6 +1,7 @@
--- When a netlist file is accepted, and what acceptance says of its design.
+-- When a netlist file is accepted, what acceptance says of its design, and what the code below the operations asks.
 -- Assumes nothing.
 pub mod Fit
 pub mod Check
 pub mod Encode
 pub mod Sound
+pub mod Lent

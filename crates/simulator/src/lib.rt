@@ -9,15 +9,14 @@ use clock::Clocked;
 use netlist::refusal::Refusal;
 use rules::Checked;
 ghost use mathlib.Core.Path.{_≡_};
-ghost use lib.ListN.{length};
-ghost use Rattle.netlist.specs.Layout.{designOf, countOf};
-ghost use Rattle.rules.specs.Sound.{Acceptance};
+ghost use Rattle.netlist.specs.Layout.{designOf};
+ghost use Rattle.rules.specs.Lent.{Lent};
 ghost use Rattle.clock.specs.Call.{bothHave, wordsAnswer, leaves, startCall, cycleCall};
 ghost use Rattle.clock.specs.Values.{plainValues, plainNext};
 
 // The lowest record whose word keeps a cycle from being run, if there is one.
 fn check_words(file: &[u8], board: &[u64]) -> Clocked
-    requires { ⌜ Acceptance (now file) (countOf (now file)) × (length (now board) ≡ countOf (now file)) ⌝ }
+    requires { ⌜ Lent (now file) (now board) ⌝ }
     ensures { λ r. ⌜ r ≡ wordsAnswer (designOf (now (file .entry))) (now (board .entry)) ⌝ }
 {
     let mut i: usize = 0;
@@ -31,8 +30,8 @@ fn check_words(file: &[u8], board: &[u64]) -> Clocked
 }
 
 // Runs one cycle of an accepted file on lists of n words, unless a word is refused.
-pub fn run(file: &[u8], board: &mut [u64], next: &mut [u64]) -> Clocked
-    requires { ⌜ Acceptance (now file) (countOf (now file)) × (length (now board) ≡ countOf (now file)) × (length (now next) ≡ countOf (now file)) ⌝ }
+fn run(file: &[u8], board: &mut [u64], next: &mut [u64]) -> Clocked
+    requires { ⌜ Lent (now file) (now board) × Lent (now file) (now next) ⌝ }
     ensures answer { λ r. ⌜ r ≡ wordsAnswer (designOf (now (file .entry))) (now (board .entry)) ⌝ }
     ensures board { λ r. ⌜ now (board .exit) ≡ leaves r (plainValues (designOf (now (file .entry))) (now (board .entry))) (now (board .entry)) ⌝ }
     ensures next { λ r. ⌜ now (next .exit) ≡ leaves r (plainNext (designOf (now (file .entry))) (now (board .entry))) (now (next .entry)) ⌝ }
@@ -65,7 +64,7 @@ pub fn start(file: &[u8], board: &mut [u64]) -> Clocked
 }
 
 // Whether a board list and a next list both have n places.
-pub fn both_have(board: usize, next: usize, n: usize) -> bool
+fn both_have(board: usize, next: usize, n: usize) -> bool
     ensures { λ r. ⌜ r ≡ bothHave board next n ⌝ }
 {
     board == n && next == n

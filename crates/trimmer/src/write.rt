@@ -6,12 +6,11 @@ use netlist::layout::keep_at;
 use netlist::layout::keep_start;
 ghost use mathlib.Core.Path.{_≡_};
 ghost use lib.ListN.{length};
-ghost use Rattle.netlist.specs.Layout.{countOf};
-ghost use Rattle.rules.specs.Sound.{Acceptance};
+ghost use Rattle.rules.specs.Lent.{Lent};
 ghost use Rattle.trim.specs.Trimmed.{trimmedBy};
 
 pub fn write_trimmed(file: &[u8], list: &[u64], destination: &mut [u8])
-    requires { ⌜ Acceptance (now file) (countOf (now file)) × (length (now list) ≡ countOf (now file)) × (length (now destination) ≡ length (now file)) ⌝ }
+    requires { ⌜ Lent (now file) (now list) × (length (now destination) ≡ length (now file)) ⌝ }
     ensures { λ r. ⌜ now (destination .exit) ≡ trimmedBy (now (file .entry)) (now (list .entry)) ⌝ }
 {
     copy(file, destination);

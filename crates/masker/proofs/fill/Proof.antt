@@ -19,7 +19,7 @@ raise-requires : tie.Need-raise-requires
 unfolding designOf
 raise-requires c κs = let args = c .before .before .before .before .before .before .before .args in
     let file = now (args .file) in
-    let s = c .before .before .before .before .before .before .before .pre .0 in (
+    let s = c .before .before .before .before .before .before .before .pre .accepted in (
       s,
       subst (λ (l : List ℕ). Fits (designOf file) l)
           (sym (c .before .before .before .seed .ensures)) (seed-fits (designOf file) (s .sound)),
@@ -29,7 +29,7 @@ tally-of-requires : tie.Need-tally-of-requires
 unfolding masksOf designOf
 tally-of-requires c κs = let args = c .before .before .before .before .before .before .before .before .before .before .before .args in
     let file = now (args .file) in
-    let s = c .before .before .before .before .before .before .before .before .before .before .before .pre .0 in (
+    let s = c .before .before .before .before .before .before .before .before .before .before .before .pre .accepted in (
       s,
       subst (λ (l : List ℕ). Fits (designOf file) l) (sym (c .before .before .before .raise .ensures ∙ ap (leastAbove (designOf file))
           (c .before .before .before .before .before .before .before .seed .ensures)))

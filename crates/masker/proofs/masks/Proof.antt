@@ -5,7 +5,7 @@ use native.Mathlib.Omega.{arith}
 use borrow.Author.Needs.{needs}
 use denote.Ref.{now}
 use Rattle.netlist.specs.Layout.{designOf}
-use Rattle.rules.proofs.Acceptance.{accepted, with-count}
+use Rattle.rules.proofs.Acceptance.{accepted, lent}
 use Rattle.care.specs.Call.{masksCall, fillMasks}
 use Rattle.care.specs.declared.Tallied.the-variants.{Done}
 use Rattle.care.proofs.CallLaws.{both-of, call-refused, call-bad-list, call-filled}
@@ -29,7 +29,7 @@ fill-requires : tie.Need-fill-requires
 fill-requires c κs = let args = c .before .before .before .before .before .before .before .before .args in
     let file = now (args .file) in
     let a = accepted file _ (sym (c .before .before .before .before .before .check .ensures) ∙ c .before .before .before .n .given .1) in
-    (with-count a, let t = c .before .if1 .left in let e = a .count in omega arith)
+    lent a (let t = c .before .if1 .left in omega arith)
 
 enum-known-r : tie.Need-enum-known-r
 enum-known-r c = c .match .keys2

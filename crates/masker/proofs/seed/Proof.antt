@@ -16,21 +16,21 @@ abbrev μ-loop : tie.MeasureT-loop
 μ-loop file list₀ i₀ list i = countOf file - i
 
 loop-holds : tie.Need-loop-holds Inv-loop μ-loop
-loop-holds c = filled-none _ _ _ (c .before .before .pre .1)
+loop-holds c = filled-none _ _ _ (c .before .before .pre .size)
 
 seed-at-requires : tie.Need-seed-at-requires Inv-loop μ-loop
-seed-at-requires c κs = (c .before .before .before .before .pre .0, let e = c .before .loop .inv .size in let t = c .loop-test .taken in omega arith)
+seed-at-requires c κs = (c .before .before .before .before .pre .accepted, let e = c .before .loop .inv .size in let t = c .loop-test .taken in omega arith)
 
 mul-list : tie.Need-mul-list Inv-loop μ-loop
 unfolding designOf
-mul-list c = let f = c .before .before .before .before .before .pre .0 .sound .few in let e = c .before .before .loop .inv .size in let t = c .before .loop-test .taken in omega arith
+mul-list c = let f = c .before .before .before .before .before .pre .accepted .sound .few in let e = c .before .before .loop .inv .size in let t = c .before .loop-test .taken in omega arith
 
 slice-write-list : tie.Need-slice-write-list Inv-loop μ-loop
 slice-write-list c = c .before .loop-test .taken
 
 add-i : tie.Need-add-i Inv-loop μ-loop
 unfolding designOf
-add-i c = let f = c .before .before .before .before .before .pre .0 .sound .few in let e = c .before .before .loop .inv .low in omega arith
+add-i c = let f = c .before .before .before .before .before .pre .accepted .sound .few in let e = c .before .before .loop .inv .low in omega arith
 
 loop-less : tie.Need-loop-less Inv-loop μ-loop
 loop-less c = let e = c .before .before .loop .inv .size in let t = c .before .loop-test .taken in omega arith
@@ -39,7 +39,7 @@ loop-again : tie.Need-loop-again Inv-loop μ-loop
 loop-again c = filled-next (c .before .before .loop .inv) (c .before .loop-test .taken) (c .seed-at .ensures)
 
 same-length : tie.Need-same-length Inv-loop μ-loop
-same-length c = c .before .loop .inv .size ∙ sym (c .before .before .before .before .pre .1)
+same-length c = c .before .loop .inv .size ∙ sym (c .before .before .before .before .pre .size)
 
 returns : tie.Need-returns Inv-loop μ-loop
 returns c = filled-all (c .before .loop .inv) (c .loop-test .left)

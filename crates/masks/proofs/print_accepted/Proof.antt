@@ -1,11 +1,11 @@
 -- `masks::print_accepted` is safe: an accepted file has no more records than the local list has words.
 -- Assumes nothing.
-use mathlib.Core.Path.{sym, _∙_}
+use mathlib.Core.Path.{sym}
 use lib.Seq.{length-take-le}
 use borrow.Author.Needs.{needs}
 use denote.Ref.{now}
 use Rattle.endian.proofs.ListLaws.{front-within, taken-length}
-use Rattle.rules.proofs.Acceptance.{few, with-count}
+use Rattle.rules.proofs.Acceptance.{few, lent}
 use Rattle.care.proofs.LeastMasks.{masks-length}
 use Rattle.masks.proofs.print_accepted.Statement.{statement}
 use Rattle.masks.proofs.print_accepted.Tie as tie
@@ -23,8 +23,7 @@ fill-requires : tie.Need-fill-requires
 fill-requires c κs = let args = c .before .before .args in
     let pre = c .before .before .pre in
     let file = now (args .file) in
-    let a = pre in
-    (with-count a, length-take-le (args .n) _ (few file (args .n) a) ∙ a .count)
+    lent pre (length-take-le (args .n) _ (few file (args .n) pre))
 
 print-tally-requires : tie.Need-print-tally-requires
 print-tally-requires c κs = search needs
@@ -46,10 +45,7 @@ print-masks-requires c κs = let fill = c .before .before .before .before .fill 
     let args = c .before .before .before .before .before .before .before .args in
     let pre = c .before .before .before .before .before .before .before .pre in
     let file = now (args .file) in
-    let a = pre in (
-      with-count a,
-      sym (taken-length (fill .last .1 .0) _ (masks-length file (args .n) a (fill .ensures .1))) ∙ a .count,
-    )
+    lent pre (sym (taken-length (fill .last .1 .0) _ (masks-length file (args .n) pre (fill .ensures .1))))
 
 returns : tie.Need-returns
 returns c = tt

@@ -18,12 +18,12 @@ loop-holds : tie.Need-loop-holds Inv-loop μ-loop
 loop-holds c = omega arith
 
 width-at-requires : tie.Need-width-at-requires Inv-loop μ-loop
-width-at-requires c κs = holds-record (now (c .before .before .before .before .args .file)) (c .before .before .before .before .pre .0) (c .before .loop .i)
-    (let e = c .before .before .before .before .pre .1 in let t = c .loop-test .taken in omega arith)
+width-at-requires c κs = holds-record (now (c .before .before .before .before .args .file)) (c .before .before .before .before .pre .accepted) (c .before .loop .i)
+    (let e = c .before .before .before .before .pre .size in let t = c .loop-test .taken in omega arith)
 
 mul-print-mask : tie.Need-mul-print-mask Inv-loop μ-loop
 unfolding designOf
-mul-print-mask c = let f = c .before .before .before .before .before .pre .0 .sound .few in let h = c .before .before .loop .inv in omega arith
+mul-print-mask c = let f = c .before .before .before .before .before .pre .accepted .sound .few in let h = c .before .before .loop .inv in omega arith
 
 shared-slice-read-print-mask : tie.Need-shared-slice-read-print-mask Inv-loop μ-loop
 shared-slice-read-print-mask c = c .before .before .loop-test .taken
@@ -36,13 +36,13 @@ returns c = tt
 
 add-i : tie.Need-add-i Inv-loop μ-loop
 unfolding designOf
-add-i c = let f = c .before .before .before .before .before .before .before .before .pre .0 .sound .few in let h = c .before .before .before .before .before .loop .inv in omega arith
+add-i c = let f = c .before .before .before .before .before .before .before .before .pre .accepted .sound .few in let h = c .before .before .before .before .before .loop .inv in omega arith
 
 loop-less : tie.Need-loop-less Inv-loop μ-loop
-loop-less c = let e = c .before .before .before .before .before .before .before .before .pre .1 in let t = c .before .before .before .before .loop-test .taken in omega arith
+loop-less c = let e = c .before .before .before .before .before .before .before .before .pre .size in let t = c .before .before .before .before .loop-test .taken in omega arith
 
 loop-again : tie.Need-loop-again Inv-loop μ-loop
-loop-again c = let e = c .before .before .before .before .before .before .before .before .pre .1 in let t = c .before .before .before .before .loop-test .taken in omega arith
+loop-again c = let e = c .before .before .before .before .before .before .before .before .pre .size in let t = c .before .before .before .before .loop-test .taken in omega arith
 
 returns-2 : tie.Need-returns-2 Inv-loop μ-loop
 returns-2 c = tt

@@ -16,58 +16,58 @@ abbrev from : tie.After-fields-at → tie.Start
 from c = c .before .before .before .before
 
 inside : (c : tie.After-fields-at) → Inside (countOf (now (from c .args .file))) (c .fields-at .result)
-inside c = let s = from c in operands-in (now (s .args .file)) (s .pre .0) (s .args .i) (s .pre .1) (c .fields-at .ensures)
+inside c = let s = from c in operands-in (now (s .args .file)) (s .pre .accepted) (s .args .i) (s .pre .below) (c .fields-at .ensures)
 
 record-at-requires : tie.Need-record-at-requires
-record-at-requires c κs = let s = c .before .before in holds-record (now (s .args .file)) (s .pre .0) (s .args .i) (s .pre .1)
+record-at-requires c κs = let s = c .before .before in holds-record (now (s .args .file)) (s .pre .accepted) (s .args .i) (s .pre .below)
 
 fields-at-requires : tie.Need-fields-at-requires
-fields-at-requires c κs = let s = c .before .before .before in holds-record (now (s .args .file)) (s .pre .0) (s .args .i) (s .pre .1)
+fields-at-requires c κs = let s = c .before .before .before in holds-record (now (s .args .file)) (s .pre .accepted) (s .args .i) (s .pre .below)
 
 width-at-requires : tie.Need-width-at-requires
-width-at-requires c κs = let s = from c in holds-record (now (s .args .file)) (s .pre .0) _ (inside c .b)
+width-at-requires c κs = let s = from c in holds-record (now (s .args .file)) (s .pre .accepted) _ (inside c .b)
 
 mul-result-of : tie.Need-mul-result-of
 unfolding designOf
-mul-result-of c = let s = from (c .before) in omega (arith, s .pre .1, s .pre .0 .sound .few)
+mul-result-of c = let s = from (c .before) in omega (arith, s .pre .below, s .pre .accepted .sound .few)
 
 shared-slice-read-result-of : tie.Need-shared-slice-read-result-of
-shared-slice-read-result-of c = let s = from (c .before .before) in omega (arith, s .pre .1, s .pre .2)
+shared-slice-read-result-of c = let s = from (c .before .before) in omega (arith, s .pre .below, s .pre .size)
 
 mul-result-of-2 : tie.Need-mul-result-of-2
 unfolding designOf
-mul-result-of-2 c = let read = c .before .before in omega (arith, inside read .a, from read .pre .0 .sound .few)
+mul-result-of-2 c = let read = c .before .before in omega (arith, inside read .a, from read .pre .accepted .sound .few)
 
 shared-slice-read-result-of-2 : tie.Need-shared-slice-read-result-of-2
-shared-slice-read-result-of-2 c = let read = c .before .before .before in omega (arith, inside read .a, from read .pre .2)
+shared-slice-read-result-of-2 c = let read = c .before .before .before in omega (arith, inside read .a, from read .pre .size)
 
 mul-result-of-3 : tie.Need-mul-result-of-3
 unfolding designOf
-mul-result-of-3 c = let read = c .before .before .before in omega (arith, inside read .b, from read .pre .0 .sound .few)
+mul-result-of-3 c = let read = c .before .before .before in omega (arith, inside read .b, from read .pre .accepted .sound .few)
 
 shared-slice-read-result-of-3 : tie.Need-shared-slice-read-result-of-3
-shared-slice-read-result-of-3 c = let read = c .before .before .before .before in omega (arith, inside read .b, from read .pre .2)
+shared-slice-read-result-of-3 c = let read = c .before .before .before .before in omega (arith, inside read .b, from read .pre .size)
 
 mul-result-of-4 : tie.Need-mul-result-of-4
 unfolding designOf
-mul-result-of-4 c = let read = c .before .before .before .before in omega (arith, inside read .c, from read .pre .0 .sound .few)
+mul-result-of-4 c = let read = c .before .before .before .before in omega (arith, inside read .c, from read .pre .accepted .sound .few)
 
 shared-slice-read-result-of-4 : tie.Need-shared-slice-read-result-of-4
-shared-slice-read-result-of-4 c = let read = c .before .before .before .before .before in omega (arith, inside read .c, from read .pre .2)
+shared-slice-read-result-of-4 c = let read = c .before .before .before .before .before in omega (arith, inside read .c, from read .pre .size)
 
 result-of-requires : tie.Need-result-of-requires
 unfolding designOf
 result-of-requires c κs =
     let read = c .before .before .before .before .before in
     let s = from read in
-    subst (λ (r : Record). r .width ≤ 64) (sym (read .before .record-at .ensures)) (s .pre .0 .sound .each (s .args .i) (s .pre .1) .narrow)
+    subst (λ (r : Record). r .width ≤ 64) (sym (read .before .record-at .ensures)) (s .pre .accepted .sound .each (s .args .i) (s .pre .below) .narrow)
 
 returns : tie.Need-returns
 returns c =
     let read = c .before .before .before .before .before .before in
     let s = from read in
     c .result-of .ensures
-    ∙ result-read (now (s .args .file)) (s .pre .0) (s .args .i) (s .pre .1) (now (s .args .board)) (read .before .record-at .ensures)
+    ∙ result-read (now (s .args .file)) (s .pre .accepted) (s .args .i) (s .pre .below) (now (s .args .board)) (read .before .record-at .ensures)
     (read .fields-at .ensures) (c .before .before .before .before .before .width-at .ensures)
 
 pub result-at-spec : {M : Type 1} → statement M

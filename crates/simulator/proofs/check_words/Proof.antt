@@ -27,7 +27,7 @@ loop-holds c = let args = c .before .before .args in
 
 is-wide-requires : tie.Need-is-wide-requires Inv-loop μ-loop
 is-wide-requires c κs = let pre = c .before .before .before .before .pre in
-    (pre .0, let e = pre .1 in let t = c .loop-test .taken in omega arith, pre .1)
+    record { accepted = pre .accepted; size = pre .size; below = let e = pre .size in let t = c .loop-test .taken in omega arith }
 
 returns : tie.Need-returns Inv-loop μ-loop
 returns c = let loop-test = c .before .before .loop-test in
@@ -36,7 +36,7 @@ returns c = let loop-test = c .before .before .loop-test in
     let file = now (args .file) in
     let pre = c .before .before .before .before .before .before .pre in
     sym (loop .inv .1 ∙ wide-here (designOf file) (now (args .board)) (countOf file) (loop .i)
-    (let e = pre .1 in let t = loop-test .taken in omega arith) (sym (c .before .is-wide .ensures) ∙ c .if1 .taken))
+    (let e = pre .size in let t = loop-test .taken in omega arith) (sym (c .before .is-wide .ensures) ∙ c .if1 .taken))
 
 add-i : tie.Need-add-i Inv-loop μ-loop
 add-i c = let t = c .before .before .loop-test .taken in omega arith
@@ -44,7 +44,7 @@ add-i c = let t = c .before .before .loop-test .taken in omega arith
 loop-less : tie.Need-loop-less Inv-loop μ-loop
 loop-less c = let loop-test = c .before .before .loop-test in
     let pre = c .before .before .before .before .before .before .pre in
-    let e = pre .1 in let t = loop-test .taken in omega arith
+    let e = pre .size in let t = loop-test .taken in omega arith
 
 loop-again : tie.Need-loop-again Inv-loop μ-loop
 loop-again c = let loop-test = c .before .before .loop-test in
@@ -52,7 +52,7 @@ loop-again c = let loop-test = c .before .before .loop-test in
     let args = c .before .before .before .before .before .before .args in
     let file = now (args .file) in
     let pre = c .before .before .before .before .before .before .pre in
-    let e = pre .1 in
+    let e = pre .size in
     let t = loop-test .taken in (
       omega arith,
       loop .inv .1 ∙ wide-later (designOf file) (now (args .board)) (countOf file) (loop .i) (omega arith)
@@ -64,7 +64,7 @@ returns-2 c = let args = c .before .before .before .before .args in
     let file = now (args .file) in
     let pre = c .before .before .before .before .pre in
     let loop = c .before .loop in
-    let e = pre .1 in
+    let e = pre .size in
     let t = c .loop-test .left in
     sym (loop .inv .1 ∙ wide-end (designOf file) (now (args .board)) (countOf file) (loop .i) (omega arith))
 

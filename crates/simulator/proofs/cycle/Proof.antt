@@ -6,7 +6,7 @@ use borrow.Author.Tests.{not-true, not-false}
 use borrow.Author.Needs.{needs}
 use denote.Ref.{now}
 use Rattle.netlist.specs.Layout.{designOf}
-use Rattle.rules.proofs.Acceptance.{accepted, with-count}
+use Rattle.rules.proofs.Acceptance.{accepted, lent}
 use Rattle.clock.specs.Call.{bothHave, wordsAnswer}
 use Rattle.clock.proofs.CallLaws.{answer-refused, answer-bad-list, answer-fit, cycle-ends, both-fit}
 use Rattle.simulator.proofs.cycle.Statement.{statement}
@@ -42,8 +42,7 @@ run-requires c κs = let if1 = c .before .before .if1 in
     let file = now (args .file) in
     let a = accepted file _ (sym (check .ensures) ∙ n .given .1) in
     let b = both-fit _ _ _ (sym (both-have .ensures) ∙ not-false _ (if1 .left)) in
-    let e = a .count in
-    (with-count a, b .0 ∙ e, b .1 ∙ e)
+    (lent a (b .0), lent a (b .1))
 
 enum-known-r : tie.Need-enum-known-r
 enum-known-r c = c .match .keys2

@@ -11,22 +11,20 @@ use Rattle.simulator.proofs.run.Statement.{statement}
 use Rattle.simulator.proofs.run.Tie as tie
 
 check-words-requires : tie.Need-check-words-requires
-check-words-requires c κs = let pre = c .before .before .before .before .pre in
-    (pre .0, pre .1)
+check-words-requires c κs = c .before .before .before .before .pre .0
 
 enum-told : tie.Need-enum-told
 enum-told c = c .match .keys1
 
 work-out-requires : tie.Need-work-out-requires
-work-out-requires c κs = let pre = c .before .before .before .before .before .before .before .before .pre in
-    (pre .0, pre .1)
+work-out-requires c κs = c .before .before .before .before .before .before .before .before .pre .0
 
 load-requires : tie.Need-load-requires
 load-requires c κs = let work-out = c .before .before .before .before .work-out in
     let start = c .before .before .before .before .before .before .before .before .before .before .before .before .before in
     let args = start .args in
     let pre = start .pre in
-    (pre .0, ap length (work-out .ensures) ∙ length-values (designOf (now (args .file))) unchanged (now (args .board)) ∙ pre .1, pre .2)
+    (record { accepted = pre .0 .accepted; size = ap length (work-out .ensures) ∙ length-values (designOf (now (args .file))) unchanged (now (args .board)) ∙ pre .0 .size }, pre .1)
 
 enum-known-r : tie.Need-enum-known-r
 enum-known-r c = c .match .keys2

@@ -7,7 +7,7 @@ use lib.Dec.{eqb}
 use borrow.Author.Tests.{eq-eqb, ne-eqb}
 use borrow.Author.Needs.{needs}
 use denote.Ref.{now}
-use Rattle.rules.proofs.Acceptance.{accepted, with-count}
+use Rattle.rules.proofs.Acceptance.{accepted, lent}
 use Rattle.clock.specs.declared.Clocked.the-variants.{Done}
 use Rattle.clock.proofs.CallLaws.{answer-refused, answer-bad-list, answer-fit, start-ends}
 use Rattle.simulator.proofs.start.Statement.{statement}
@@ -34,7 +34,7 @@ reset-requires c κs = let n = c .before .before .before .n in
     let args = c .before .before .before .before .before .before .before .before .args in
     let file = now (args .file) in
     let a = accepted file _ (sym (check .ensures) ∙ n .given .1) in
-    (with-count a, let t = c .before .if1 .left in let e = a .count in omega arith)
+    lent a (let t = c .before .if1 .left in omega arith)
 
 enum-known-r : tie.Need-enum-known-r
 enum-known-r c = c .match .keys2

@@ -5,7 +5,7 @@ use native.Mathlib.Omega.{arith}
 use borrow.Author.Needs.{needs}
 use denote.Ref.{now}
 use Rattle.netlist.specs.Layout.{designOf}
-use Rattle.rules.proofs.Acceptance.{accepted, with-count}
+use Rattle.rules.proofs.Acceptance.{accepted, lent}
 use Rattle.care.specs.declared.Tallied.the-variants.{Done}
 use Rattle.care.specs.Call.{masksCall, fillMasks}
 use Rattle.care.proofs.LeastMasks.{masks-length}
@@ -47,7 +47,7 @@ fill-requires c κs = let args = c .before .before .before .before .before .befo
     let n = c .before .before .before .before .n in
     let file = now (args .file) in
     let a = accepted file _ (sym (check .ensures) ∙ n .given .1) in
-    (with-count a, let t = c .before .before .if1 .left in let e = a .count in omega arith)
+    lent a (let t = c .before .before .if1 .left in omega arith)
 
 write-trimmed-requires : tie.Need-write-trimmed-requires
 write-trimmed-requires c κs = let args = c .before .before .before .before .before .before .before .before .before .before .before .before .before
@@ -58,7 +58,7 @@ write-trimmed-requires c κs = let args = c .before .before .before .before .bef
     let fill = c .before .before .before .before .fill in
     let file = now (args .file) in
     let a = accepted file _ (sym (check .ensures) ∙ n .given .1) in
-    (with-count a, masks-length file _ a (fill .ensures .1) ∙ a .count, let t = if2 .left in omega arith)
+    (lent a (masks-length file _ a (fill .ensures .1)), let t = if2 .left in omega arith)
 
 enum-known-r : tie.Need-enum-known-r
 enum-known-r c = c .match .keys2

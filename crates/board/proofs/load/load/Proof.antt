@@ -16,17 +16,17 @@ abbrev μ-loop : tie.MeasureT-loop
 μ-loop file values list₀ i₀ list i = countOf file - i
 
 loop-holds : tie.Need-loop-holds Inv-loop μ-loop
-loop-holds c = filled-none _ _ _ (c .before .before .before .pre .2)
+loop-holds c = filled-none _ _ _ (c .before .before .before .pre .1 .size)
 
 next-word-requires : tie.Need-next-word-requires Inv-loop μ-loop
 next-word-requires c κs = let pre = c .before .before .before .before .before .pre in
-    let v = pre .1 in let e = c .before .loop .inv .size in let t = c .loop-test .taken in (pre .0, omega arith, omega arith)
+    let e = c .before .loop .inv .size in let t = c .loop-test .taken in record { accepted = pre .0 .accepted; size = pre .0 .size; below = omega arith }
 
 mul-list : tie.Need-mul-list Inv-loop μ-loop
 unfolding designOf
 mul-list c = let loop = c .before .before .loop in
     let pre = c .before .before .before .before .before .before .pre in
-    let f = pre .0 .sound .few in let e = loop .inv .size in let t = c .before .loop-test .taken in omega arith
+    let f = pre .0 .accepted .sound .few in let e = loop .inv .size in let t = c .before .loop-test .taken in omega arith
 
 slice-write-list : tie.Need-slice-write-list Inv-loop μ-loop
 slice-write-list c = c .before .loop-test .taken
@@ -35,7 +35,7 @@ add-i : tie.Need-add-i Inv-loop μ-loop
 unfolding designOf
 add-i c = let loop = c .before .before .loop in
     let pre = c .before .before .before .before .before .before .pre in
-    let f = pre .0 .sound .few in let e = loop .inv .low in omega arith
+    let f = pre .0 .accepted .sound .few in let e = loop .inv .low in omega arith
 
 loop-less : tie.Need-loop-less Inv-loop μ-loop
 loop-less c = let e = c .before .before .loop .inv .size in let t = c .before .loop-test .taken in omega arith
@@ -44,7 +44,7 @@ loop-again : tie.Need-loop-again Inv-loop μ-loop
 loop-again c = filled-next (c .before .before .loop .inv) (c .before .loop-test .taken) (c .next-word .ensures)
 
 same-length : tie.Need-same-length Inv-loop μ-loop
-same-length c = c .before .loop .inv .size ∙ sym (c .before .before .before .before .before .pre .2)
+same-length c = c .before .loop .inv .size ∙ sym (c .before .before .before .before .before .pre .1 .size)
 
 returns : tie.Need-returns Inv-loop μ-loop
 unfolding nextOf designOf

@@ -13,7 +13,7 @@ use Rattle.board.proofs.load.next_word.Tie as tie
 role-at-requires : tie.Need-role-at-requires
 role-at-requires c κs = let args = c .before .before .args in
     let pre = c .before .before .pre in
-    holds-record (now (args .file)) (pre .0) (args .i) (pre .1)
+    holds-record (now (args .file)) (pre .accepted) (args .i) (pre .below)
 
 enum-told : tie.Need-enum-told
 enum-told c = c .match .keys1
@@ -26,8 +26,8 @@ unfolding designOf
 mul-result c = let role-at = c .before .before .before .role-at in
     let args = c .before .before .before .before .before .before .args in
     let pre = c .before .before .before .before .before .before .pre in
-    let f = pre .0 .sound .few in
-    let l = register-loads (designOf (now (args .file))) (pre .0 .sound) (args .i) (pre .1) _ _
+    let f = pre .accepted .sound .few in
+    let l = register-loads (designOf (now (args .file))) (pre .accepted .sound) (args .i) (pre .below) _ _
     (sym (role-at .ensures) ∙ c .before .role .given .1) .below in omega arith
 
 shared-slice-read-result : tie.Need-shared-slice-read-result
@@ -36,8 +36,8 @@ shared-slice-read-result c = let role = c .before .before .role in
     let role-at = c .before .before .before .before .role-at in
     let args = c .before .before .before .before .before .before .before .args in
     let pre = c .before .before .before .before .before .before .before .pre in
-    let e = pre .2 in
-    let l = register-loads (designOf (now (args .file))) (pre .0 .sound) (args .i) (pre .1) _ _
+    let e = pre .size in
+    let l = register-loads (designOf (now (args .file))) (pre .accepted .sound) (args .i) (pre .below) _ _
     (sym (role-at .ensures) ∙ role .given .1) .below in omega arith
 
 enum-told-2 : tie.Need-enum-told-2

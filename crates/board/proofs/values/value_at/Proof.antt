@@ -14,7 +14,7 @@ result-at-requires c κs = c .before .before .pre
 keep-at-requires : tie.Need-keep-at-requires
 keep-at-requires c κs = let args = c .before .before .before .args in
     let pre = c .before .before .before .pre in
-    holds-record (now (args .file)) (pre .0) (args .i) (pre .1)
+    holds-record (now (args .file)) (pre .accepted) (args .i) (pre .below)
 
 returns : tie.Need-returns
 unfolding designOf recordAt

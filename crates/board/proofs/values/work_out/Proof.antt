@@ -21,19 +21,19 @@ abbrev μ-loop : tie.MeasureT-loop
 
 loop-holds : tie.Need-loop-holds Inv-loop μ-loop
 unfolding valuesTo
-loop-holds c = (omega arith, c .before .before .pre .1, refl)
+loop-holds c = (omega arith, c .before .before .pre .size, refl)
 
 value-at-requires : tie.Need-value-at-requires Inv-loop μ-loop
 value-at-requires c κs = let loop = c .before .before .loop in
     let pre = c .before .before .before .before .before .pre in
-    (pre .0, let e = loop .inv .1 in let t = c .before .loop-test .taken in omega arith, loop .inv .1)
+    record { accepted = pre .accepted; size = loop .inv .1; below = let e = loop .inv .1 in let t = c .before .loop-test .taken in omega arith }
 
 mul-board : tie.Need-mul-board Inv-loop μ-loop
 unfolding designOf
 mul-board c = let loop-test = c .before .before .loop-test in
     let loop = c .before .before .before .loop in
     let pre = c .before .before .before .before .before .before .pre in
-    let f = pre .0 .sound .few in let e = loop .inv .1 in let t = loop-test .taken in omega arith
+    let f = pre .accepted .sound .few in let e = loop .inv .1 in let t = loop-test .taken in omega arith
 
 slice-write-board : tie.Need-slice-write-board Inv-loop μ-loop
 slice-write-board c = c .before .before .loop-test .taken
@@ -42,7 +42,7 @@ add-i : tie.Need-add-i Inv-loop μ-loop
 unfolding designOf
 add-i c = let loop = c .before .before .before .loop in
     let pre = c .before .before .before .before .before .before .pre in
-    let f = pre .0 .sound .few in let e = loop .inv .0 in omega arith
+    let f = pre .accepted .sound .few in let e = loop .inv .0 in omega arith
 
 loop-less : tie.Need-loop-less Inv-loop μ-loop
 loop-less c = let e = c .before .before .before .loop .inv .1 in let t = c .before .before .loop-test .taken in omega arith
@@ -60,7 +60,7 @@ loop-again c = let loop-test = c .before .before .loop-test in
     )
 
 same-length : tie.Need-same-length Inv-loop μ-loop
-same-length c = c .before .loop .inv .1 ∙ sym (c .before .before .before .before .pre .1)
+same-length c = c .before .loop .inv .1 ∙ sym (c .before .before .before .before .pre .size)
 
 returns : tie.Need-returns Inv-loop μ-loop
 unfolding valuesOf designOf

@@ -21,15 +21,15 @@ abbrev μ-loop : tie.MeasureT-loop
 μ-loop file list destination₀ i₀ destination i = length list - i
 
 copy-requires : tie.Need-copy-requires Inv-loop μ-loop
-copy-requires c κs = let s = c .before .before .before .before .pre .2 in omega arith
+copy-requires c κs = let s = c .before .before .before .before .pre .1 in omega arith
 
 loop-holds : tie.Need-loop-holds Inv-loop μ-loop
-loop-holds c = trimming-none _ _ _ _ (c .before .before .before .before .before .before .before .pre .2) (c .before .before .copy .ensures .1)
+loop-holds c = trimming-none _ _ _ _ (c .before .before .before .before .before .before .before .pre .1) (c .before .before .copy .ensures .1)
 
 keep-start-requires : tie.Need-keep-start-requires Inv-loop μ-loop
 keep-start-requires c κs = let pre = c .before .before .before .before .before .before .before .before .before .pre in
-    let t = c .loop-test .taken in let e = pre .1 in
-    let f = few _ _ (pre .0) in
+    let t = c .loop-test .taken in let e = pre .0 .size in
+    let f = few _ _ (pre .0 .accepted) in
     omega arith
 
 sub-write-64 : tie.Need-sub-write-64 Inv-loop μ-loop
@@ -50,7 +50,7 @@ shared-slice-read-write-64 c = let t = c .before .before .before .loop-test .tak
 keep-at-requires : tie.Need-keep-at-requires Inv-loop μ-loop
 keep-at-requires c κs = let pre = c .before .before .before .before .before .before .before .before .before .before .before .before .pre in
     let loop = c .before .before .before .before .loop in
-    holds-record _ (pre .0) (loop .i) (let t = c .before .before .before .loop-test .taken in let e = pre .1 in omega arith)
+    holds-record _ (pre .0 .accepted) (loop .i) (let t = c .before .before .before .loop-test .taken in let e = pre .0 .size in omega arith)
 
 write-64-requires : tie.Need-write-64-requires Inv-loop μ-loop
 write-64-requires c κs = omega arith
@@ -69,15 +69,15 @@ loop-again c = let start = c .before .before .before .before .before .before .be
     let loop-test = c .before .before .before .before .before .before .before .loop-test in
     let keep-start = c .before .before .before .before .before .before .keep-start in
     trimming-next _ _ _ _ _ _ _ (loop .inv) (let t = loop-test .taken in omega arith)
-    (holds-record _ (start .pre .0) (loop .i) (let t = loop-test .taken in let e = start .pre .1 in omega arith)) (keep-start .ensures)
+    (holds-record _ (start .pre .0 .accepted) (loop .i) (let t = loop-test .taken in let e = start .pre .0 .size in omega arith)) (keep-start .ensures)
     (ap (bitAnd (maskAt (now (start .args .list)) (loop .i))) (c .before .before .before .keep-at .ensures)) (c .before .before .write-64 .ensures)
 
 same-length : tie.Need-same-length Inv-loop μ-loop
-same-length c = c .before .loop .inv .size ∙ sym (c .before .before .before .before .before .before .before .before .before .pre .2)
+same-length c = c .before .loop .inv .size ∙ sym (c .before .before .before .before .before .before .before .before .before .pre .1)
 
 returns : tie.Need-returns Inv-loop μ-loop
 returns c = let pre = c .before .before .before .before .before .before .before .before .before .pre in
-    trimming-all _ _ _ _ (c .before .loop .inv) (let t = c .loop-test .left in omega arith) (pre .1)
+    trimming-all _ _ _ _ (c .before .loop .inv) (let t = c .loop-test .left in omega arith) (pre .0 .size)
 
 pub write-trimmed-spec : {M : Type 1} → statement M
 write-trimmed-spec =

@@ -1,0 +1,3 @@
+-- What the functions for C cite: the answer of each operation fits into its number.
+-- Assumes nothing.
+pub mod Fitting
