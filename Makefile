@@ -1,15 +1,17 @@
 # The commands of the repository: `make sample` shows the program on a sample file, `make test` is the gate, `make install` copies to PREFIX.
 # Assumes the Rattle kit (rt) on the PATH; `make test` sees to the other tools itself.
 
-LIBRARY = target/staticlib/libdesktop.a
-PORT = target/staticlib/libtestport.a
+LIBRARY = target/staticlib/libpcn.a
 PROGRAM = target/bin/masks
+
+# The crates whose functions C can call; `make library` joins their archives to one.
+FOR_C = desktop interface
 
 # Where `make install` puts the program, the library and the header. DESTDIR goes before it, for packages that are put together elsewhere.
 PREFIX ?= /usr/local
 INSTALLED = $(DESTDIR)$(PREFIX)
 
-.PHONY: program sample library port test bench bench-write fuzz fuzz-wrong install uninstall
+.PHONY: program sample library test bench bench-write fuzz fuzz-wrong wrong install uninstall
 
 # How long `make fuzz` searches, and from which seed.
 SECONDS = 20
@@ -26,30 +28,32 @@ sample: program
 	@$(PROGRAM) < examples/shift-chain.pcn
 
 library:
-	rt staticlib desktop
-
-port:
-	rt staticlib testport
+	@for crate in $(FOR_C); do rt staticlib $$crate || exit 1; done
+	@cd target/staticlib && rm -f libpcn.a && { echo create libpcn.a; for crate in $(FOR_C); do echo addlib lib$$crate.a; done; echo save; } | ar -M
 
 test:
 	@tests/setup
 	@tests/gate
 
-bench: library port
-	@tests/bench/run $(LIBRARY) $(PORT)
+bench: library
+	@tests/bench/run $(LIBRARY)
 
 # The same, and puts the result into docs/BENCHMARKS.md.
-bench-write: library port
-	@tests/bench/run --write $(LIBRARY) $(PORT)
+bench-write: library
+	@tests/bench/run --write $(LIBRARY)
 
-fuzz: library port
+fuzz: library
 	@tests/fuzz/run $(SECONDS) $(SEED)
 
 # Shows that the fuzz run finds each of many wrong models.
-fuzz-wrong: library port
+fuzz-wrong: library
 	@tests/fuzz/wrong
 
-# Installed, the library has its header's name, so that a C program links with -lpcn.
+# Shows that the outside tests find each of many wrong libraries.
+wrong:
+	@tests/wrong/run
+
+# A C program links with -lpcn.
 install: program library
 	install -d "$(INSTALLED)/bin" "$(INSTALLED)/lib" "$(INSTALLED)/include"
 	install -m 755 "$(PROGRAM)" "$(INSTALLED)/bin/masks"

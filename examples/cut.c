@@ -2,7 +2,7 @@
    Assumes pcn.h on the include path, and its library to link with. */
 
 /* To build it from the root of a clone, after `make library`:
-       gcc -Iinclude examples/cut.c target/staticlib/libdesktop.a -o cut
+       gcc -Iinclude examples/cut.c target/staticlib/libpcn.a -o cut
    Its status is 0 for a file that was trimmed, 1 for a refused one, and 2
    where reading, writing or finding memory failed. */
 
@@ -24,7 +24,7 @@ static const char *const kinds[] = {
     "or", "xor", "mux", "add", "sub", "mul", "equal", "below"
 };
 
-/* For every number that a function of pcn.h gives. */
+/* For every number that check, masks and trim give. */
 static const char *const reasons[] = {
     [PCN_TOO_SHORT] = "the file is shorter than its header",
     [PCN_BAD_MARK] = "the file does not begin as a netlist file does",

@@ -1,6 +1,6 @@
 /* Pitch card netlists: the functions that a C or C++ program may call.
    Assumes a 64-bit x86 target, linked with libpcn.a (in a clone it is
-   target/staticlib/libdesktop.a). */
+   target/staticlib/libpcn.a). */
 
 #ifndef PCN_H
 #define PCN_H
@@ -36,8 +36,8 @@ extern "C" {
 /* The refusal numbers.
 
    They are tried in this order: first 1 to 5 for the whole file, then 6 to
-   10 for record 0, then 6 to 10 for record 1, and so on, then 11, and at last
-   13. The first that applies is the answer.
+   10 for record 0, then 6 to 10 for record 1, and so on, then 11, then 12 for
+   each record in turn, and at last 13. The first that applies is the answer.
 
     1  The file is shorter than its header of 8 bytes.
     2  The file does not begin with the letters PCN, or byte 5 is not 0.
@@ -55,10 +55,10 @@ extern "C" {
    10  A field that the kind does not use is not 0, or the keep word has a
        bit beyond the width, or so has the value of a constant or the reset
        state of a register.
-   11  The mask list has not 8 bytes for each record.
+   11  A list has not one word of 8 bytes for each record.
+   12  Before a cycle, the word at the record, an input or a register, has a
+       bit beyond its width.
    13  The destination has not as many bytes as the file.
-
-   Number 12 belongs to the clocking of designs; no function here gives it.
 
    A register may read a record that has not been looked at yet. Refusals 8
    and 9 then go by that record's kind byte and width byte as they stand. */
@@ -75,30 +75,45 @@ enum pcn_refusal {
     PCN_BAD_WIDTH_RULE = 9,
     PCN_UNUSED_BIT = 10,
     PCN_BAD_LIST = 11,
+    PCN_WIDE_WORD = 12,
     PCN_BAD_DESTINATION = 13
 };
 
+/* Lists.
+
+   A list has a word of 64 bits for each record; word i belongs to record i.
+   There are two ways to pass one.
+
+   - As words: `uint64_t *` and the count of words. The pointer is aligned as
+     C aligns a uint64_t.
+   - As bytes: `uint8_t *` and the count of bytes, 8 for each word, lowest
+     byte first. The pointer needs no alignment. The mask lists of pcn_masks
+     and pcn_trim are passed so.
+
+   On this target a word lies in memory as its 8 bytes, lowest first, so the
+   same memory serves both ways: an array of uint64_t can be cast to uint8_t *
+   for pcn_masks, and its words are then the masks. */
+
 /* Rules for callers.
 
-   - `file` must point to `length` bytes that can be read. For length 0 any
-     pointer will do that is not null.
-   - `masks` must point to `masks_length` bytes that can be read and written,
-     and `destination` to `destination_length` such bytes. For length 0 any
-     pointer will do that is not null. They may hold anything before the
-     call.
-   - No two of the file, the mask list and the destination may overlap.
-   - Nobody may change these bytes until the call has returned, and nobody
-     may read the mask list or the destination until then.
-   - The pointers need no alignment.
-   - Numbers in the file, in the mask list and in the destination are
-     little-endian.
+   - A pointer must point to as many bytes or words as the count behind it
+     says. What a function only reads, its `const` parameters, must be
+     readable, all else readable and writable. For a count of 0 any pointer
+     will do that is not null and is aligned as said above.
+   - No two of the file, the lists and the destination of a call may overlap.
+   - Nobody may change this memory until the call has returned, and nobody
+     may read what is not `const` until then.
+   - Files and destinations are bytes, need no alignment, and hold
+     little-endian numbers.
+   - Except where a function says so, a list or a destination may hold
+     anything before the call.
 
-   What callers may rely on: the functions change no byte but those of the
-   mask list and of the destination, allocate nothing and keep no state
+   What callers may rely on: the functions change nothing but the lists and
+   destinations that are not `const`, allocate nothing and keep no state
    between calls, so several threads may call them at the same time, also for
-   the same file, each with a mask list and a destination of its own. A
-   refused call changes no byte at all. pcn_masks and pcn_trim take about
-   17,000 bytes of the stack. */
+   the same file, each with lists and a destination of its own. A refused call
+   changes nothing at all. pcn_masks and pcn_trim take about 17,000 bytes of
+   the stack. */
 
 /* Checks a netlist file. Accepted: the answer is the count of records. */
 uint64_t pcn_check(const uint8_t *file, size_t length);
@@ -123,6 +138,30 @@ uint64_t pcn_masks(const uint8_t *file, size_t length, uint8_t *masks,
 uint64_t pcn_trim(const uint8_t *file, size_t length, uint8_t *masks,
                   size_t masks_length, uint8_t *destination,
                   size_t destination_length);
+
+/* Writes the reset state of each register into a board list, and 0 at every
+   other record.
+
+   Refused as pcn_check refuses the file, and then by 11 when the board list
+   has another count of words than the file of records. Accepted: the answer
+   is 0, and all words of the board list are written. */
+uint64_t pcn_start(const uint8_t *file, size_t length, uint64_t *board,
+                   size_t board_words);
+
+/* Runs one cycle of the design.
+
+   Before it, the board list holds the word of the pin at each input and the
+   state at each register; its other words may be anything. After it, word i
+   of the board list is the value of signal i, and the next list holds at
+   each register its next state, and 0 at every other record. With the words
+   of the pins put at its inputs, the next list is the board list of the next
+   cycle.
+
+   Refused as pcn_check refuses the file, then by 11 when one of the lists
+   has another count of words than the file of records, and then by 12.
+   Accepted: the answer is 0, and all words of both lists are written. */
+uint64_t pcn_cycle(const uint8_t *file, size_t length, uint64_t *board,
+                   size_t board_words, uint64_t *next, size_t next_words);
 
 #ifdef __cplusplus
 }
