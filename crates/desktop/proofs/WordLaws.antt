@@ -1,4 +1,4 @@
--- A call on a buffer of bytes is the operation's on a list of words that stands for it, with the words as bytes where the call is accepted.
+-- A call on a buffer of bytes is the operation's on a list of words that matches it, with the words as bytes where the call is accepted.
 -- Assumes nothing.
 use mathlib.Core.Path.{_≡_, refl, sym, ap, subst, _∙_}
 use mathlib.Core.Bool.{Bool, true, false}
@@ -23,7 +23,7 @@ use Rattle.care.proofs.LeastMasks.{masks-length}
 use Rattle.trim.specs.Call.{TrimCall, trimAnswer, leaves, trimAfter, trimCall}
 use Rattle.trim.specs.Trimmed.{trimmed}
 use Rattle.desktop.specs.Buffers.{fillBuffer, masksBuffer, trimBuffers}
-use Rattle.desktop.specs.Words.{StandsFor, Room}
+use Rattle.desktop.specs.Words.{Matches, Room}
 
 -- a call on words, as one on bytes that held `buffer`
 abbrev pub inBytes : MasksCall → List ℕ → MasksCall
@@ -33,20 +33,20 @@ abbrev pub trimInBytes : TrimCall → List ℕ → TrimCall
 trimInBytes c buffer = record { answer = c .answer; list = leaves (c .answer) (wordBytes (c .list)) buffer; destination = c .destination }
 
 -- the front of a longer list
-pub front-stands : {n bytes : ℕ} (list : List ℕ) → n ≤ length list → StandsFor n bytes → StandsFor (length (take n list)) bytes
-front-stands {n} {bytes} list h s = subst (λ (m : ℕ). StandsFor m bytes) (sym (length-take-le n list h)) s
+pub front-matches : {n bytes : ℕ} (list : List ℕ) → n ≤ length list → Matches n bytes → Matches (length (take n list)) bytes
+front-matches {n} {bytes} list h s = subst (λ (m : ℕ). Matches m bytes) (sym (length-take-le n list h)) s
 
--- what there is to say of a call of masks with a list that stands for a buffer
-pub record Stands (file buffer : List ℕ) (call : MasksCall) : Type 0 where
+-- what there is to say of a call of masks with a list that matches a buffer
+pub record Matched (file buffer : List ℕ) (call : MasksCall) : Type 0 where
   pub same : masksBuffer file buffer ≡ inBytes call buffer
   pub room : Room (call .answer) (length (call .list)) (length buffer)
 
-module _ (file buffer words : List ℕ) (s : StandsFor (length words) (length buffer)) where
+module _ (file buffer words : List ℕ) (s : Matches (length words) (length buffer)) where
   ends : (call : MasksCall) → masksCall file words ≡ call → masksBuffer file buffer ≡ inBytes call buffer → Room (call .answer) (length (call .list)) (length buffer)
-      → Stands file buffer (masksCall file words)
-  ends call e q r = subst (Stands file buffer) (sym e) (record { same = q; room = r })
+      → Matched file buffer (masksCall file words)
+  ends call e q r = subst (Matched file buffer) (sym e) (record { same = q; room = r })
 
-  list-case : (n : ℕ) → checkOf file ≡ Accepted n → (b : Bool) → eqb (length words) n ≡ b → Stands file buffer (masksCall file words)
+  list-case : (n : ℕ) → checkOf file ≡ Accepted n → (b : Bool) → eqb (length words) n ≡ b → Matched file buffer (masksCall file words)
   unfolding masksCall masksBuffer
   list-case n e true q =
       let d = designOf file in
@@ -61,15 +61,15 @@ module _ (file buffer words : List ℕ) (s : StandsFor (length words) (length bu
       ends _ (call-bad-list (λ n. n) file (fillMasks d) words e g)
       (call-bad-list (λ n. 8 * n) file (fillBuffer d) buffer e (λ h. g (s .back n (few file n (accepted file n e)) h))) tt
 
-  file-case : (c : Checked) → checkOf file ≡ c → Stands file buffer (masksCall file words)
+  file-case : (c : Checked) → checkOf file ≡ c → Matched file buffer (masksCall file words)
   unfolding masksCall masksBuffer
   file-case (Accepted n) e = list-case n e (eqb (length words) n) refl
   file-case (refused r i) e =
       let d = designOf file in
       ends _ (call-refused (λ n. n) file (fillMasks d) words e) (call-refused (λ n. 8 * n) file (fillBuffer d) buffer e) tt
 
-  pub masks-stands : Stands file buffer (masksCall file words)
-  masks-stands = file-case (checkOf file) refl
+  pub masks-match : Matched file buffer (masksCall file words)
+  masks-match = file-case (checkOf file) refl
 
   -- ---- trim: whatever masks comes to, and whether or not the destination fits
 
@@ -97,10 +97,10 @@ module _ (file buffer words : List ℕ) (s : StandsFor (length words) (length bu
     pub same-trim : trimBuffers file buffer destination ≡ trimInBytes (trimCall file words destination) buffer
     unfolding trimAfter
     same-trim =
-        ap (λ (m : MasksCall). trimAfter m file buffer destination) (masks-stands .same)
+        ap (λ (m : MasksCall). trimAfter m file buffer destination) (masks-match .same)
         ∙ ap (λ (l : List ℕ). record { answer = answer; list = l; destination = leaves answer (trimmed file) destination })
         (list-left (masksCall file words .answer) (masksCall file words .list) fits)
 
     pub trim-room : Room (trimCall file words destination .answer) (length (trimCall file words destination .list)) (length buffer)
     unfolding trimAfter
-    trim-room = room-left (masksCall file words .answer) (masksCall file words .list) fits (masks-stands .room)
+    trim-room = room-left (masksCall file words .answer) (masksCall file words .list) fits (masks-match .room)

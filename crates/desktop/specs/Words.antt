@@ -6,8 +6,8 @@ use Rattle.netlist.specs.Limits.{maxCount}
 use Rattle.care.specs.declared.Tallied.{Tallied}
 use Rattle.care.specs.declared.Tallied.the-variants.{Done, Refused}
 
--- A list of so many words stands for a buffer of so many bytes: for each count of records that a file may have, both are of the length it asks for or neither is.
-pub record StandsFor (words bytes : ℕ) : Type 0 where
+-- A list of so many words matches a buffer of so many bytes: for each count of records that a file may have, both are of the length it asks for or neither is.
+pub record Matches (words bytes : ℕ) : Type 0 where
   pub there : words ≤ maxCount → bytes ≡ 8 * words
   pub back : (n : ℕ) → n ≤ maxCount → bytes ≡ 8 * n → words ≡ n
 

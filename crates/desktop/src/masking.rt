@@ -1,5 +1,5 @@
 // The masks of a file as bytes, for C.
-// `pcn_masks` asks nothing of a caller in Rattle; `masks_by` asks for a list of words that stands for the buffer.
+// `pcn_masks` asks nothing of a caller in Rattle; `masks_by` asks for a list of words that matches the buffer.
 use crate::words::LONG_LIST;
 use crate::words::SHORT_LIST;
 use crate::words::word_count;
@@ -10,11 +10,11 @@ ghost use mathlib.Core.Path.{_≡_};
 ghost use lib.ListN.{length};
 ghost use Rattle.answer.specs.Answer.{talliedAnswer};
 ghost use Rattle.desktop.specs.Buffers.{masksBuffer};
-ghost use Rattle.desktop.specs.Words.{StandsFor};
+ghost use Rattle.desktop.specs.Words.{Matches};
 
 // The same as `pcn_masks`, by way of a list of words.
 fn masks_by(words: &mut [u64], file: &[u8], buffer: &mut [u8]) -> u64
-    requires { ⌜ StandsFor (length (now words)) (length (now buffer)) ⌝ }
+    requires { ⌜ Matches (length (now words)) (length (now buffer)) ⌝ }
     ensures answer { λ r. ⌜ r ≡ talliedAnswer (masksBuffer (now (file .entry)) (now (buffer .entry)) .answer) ⌝ }
     ensures masks { λ r. ⌜ now (buffer .exit) ≡ masksBuffer (now (file .entry)) (now (buffer .entry)) .list ⌝ }
 {

@@ -1,5 +1,5 @@
 // The trimmed file and its masks as bytes, for C.
-// `pcn_trim` asks nothing of a caller in Rattle; `trim_by` asks for a list of words that stands for the mask list.
+// `pcn_trim` asks nothing of a caller in Rattle; `trim_by` asks for a list of words that matches the mask list.
 use crate::words::LONG_LIST;
 use crate::words::SHORT_LIST;
 use crate::words::word_count;
@@ -10,11 +10,11 @@ ghost use mathlib.Core.Path.{_≡_};
 ghost use lib.ListN.{length};
 ghost use Rattle.answer.specs.Answer.{talliedAnswer};
 ghost use Rattle.desktop.specs.Buffers.{trimBuffers};
-ghost use Rattle.desktop.specs.Words.{StandsFor};
+ghost use Rattle.desktop.specs.Words.{Matches};
 
 // The same as `pcn_trim`, by way of a list of words.
 fn trim_by(words: &mut [u64], file: &[u8], masks: &mut [u8], destination: &mut [u8]) -> u64
-    requires { ⌜ StandsFor (length (now words)) (length (now masks)) ⌝ }
+    requires { ⌜ Matches (length (now words)) (length (now masks)) ⌝ }
     ensures answer { λ r. ⌜ r ≡ talliedAnswer (trimBuffers (now (file .entry)) (now (masks .entry)) (now (destination .entry)) .answer) ⌝ }
     ensures masks { λ r. ⌜ now (masks .exit) ≡ trimBuffers (now (file .entry)) (now (masks .entry)) (now (destination .entry)) .list ⌝ }
     ensures destination { λ r. ⌜ now (destination .exit) ≡ trimBuffers (now (file .entry)) (now (masks .entry)) (now (destination .entry)) .destination ⌝ }

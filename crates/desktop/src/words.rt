@@ -9,7 +9,7 @@ ghost use lib.ListN.{length};
 ghost use Rattle.endian.specs.Bytes.{wordBytes};
 ghost use Rattle.netlist.specs.Limits.{maxCount};
 ghost use Rattle.trim.specs.Call.{leaves};
-ghost use Rattle.desktop.specs.Words.{StandsFor, Room};
+ghost use Rattle.desktop.specs.Words.{Matches, Room};
 
 // Lists of so few words are worked on in an array of this length, which takes less time to clear than one for the longest list.
 pub const SHORT_LIST: usize = 256;
@@ -17,10 +17,10 @@ pub const SHORT_LIST: usize = 256;
 // One word more than any file has records: a list of this length fits no file.
 pub const LONG_LIST: usize = Record::MAX_COUNT + 1;
 
-// How many words stand for a buffer of so many bytes: one for each 8 bytes, or more than any file has records.
+// How many words match a buffer of so many bytes: one for each 8 bytes, or more than any file has records.
 pub fn word_count(bytes: usize) -> usize
     ensures room { λ r. ⌜ r ≤ maxCount + 1 ⌝ }
-    ensures stands { λ r. ⌜ StandsFor r bytes ⌝ }
+    ensures matches { λ r. ⌜ Matches r bytes ⌝ }
 {
     if bytes % 8 != 0 {
         return LONG_LIST;

@@ -12,7 +12,7 @@ use Rattle.trim.specs.Call.{leaves}
 use Rattle.answer.specs.Answer.{talliedAnswer}
 use Rattle.answer.specs.Fits.{TalliedFits}
 use Rattle.answer.proofs.Fitting.{masks-fits}
-use Rattle.desktop.proofs.WordLaws.{masks-stands}
+use Rattle.desktop.proofs.WordLaws.{masks-match}
 use Rattle.desktop.proofs.masking.masks_by.Statement.{statement}
 use Rattle.desktop.proofs.masking.masks_by.Tie as tie
 
@@ -22,7 +22,7 @@ masks-requires c κs = tt
 write-accepted-requires : tie.Need-write-accepted-requires
 write-accepted-requires c κs = let s = c .before .before .before .before .before .before .before .before .before in
     let masks = c .before .before .before .before .masks in
-    let stands = masks-stands (now (s .args .file)) (now (s .args .buffer)) (now (s .args .words)) (s .pre) in
+    let stands = masks-match (now (s .args .file)) (now (s .args .buffer)) (now (s .args .words)) (s .pre) in
     rw (masks .ensures .0, masks .ensures .1) (stands .room)
 
 of-tallied-requires : tie.Need-of-tallied-requires
@@ -38,7 +38,7 @@ returns : tie.Need-returns
 returns c = let s = c .before .before .before .before .before .before .before .before .before .before .before .before .before in
     let masks = c .before .before .before .before .before .before .before .before .masks in
     let buffer = now (s .args .buffer) in
-    let same = masks-stands (now (s .args .file)) buffer (now (s .args .words)) (s .pre) .same in (
+    let same = masks-match (now (s .args .file)) buffer (now (s .args .words)) (s .pre) .same in (
       c .of-tallied .ensures ∙ ap talliedAnswer (masks .ensures .0 ∙ sym (ap (λ (m : MasksCall). m .answer) same)),
       c .before .before .before .write-accepted .ensures
           ∙ ap₂ (λ (a : Tallied) (l : List ℕ). leaves a (wordBytes l) buffer) (masks .ensures .0) (masks .ensures .1)

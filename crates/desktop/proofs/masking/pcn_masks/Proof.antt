@@ -1,9 +1,9 @@
--- `desktop::masking::pcn_masks` meets its contract: the front of a local list, short or long, stands for the buffer.
+-- `desktop::masking::pcn_masks` meets its contract: the front of a local list, short or long, matches the buffer.
 -- Assumes nothing.
 use mathlib.Core.Path.{sym}
 use lib.Seq.{length-take-le}
 use borrow.Author.Needs.{needs}
-use Rattle.desktop.proofs.WordLaws.{front-stands}
+use Rattle.desktop.proofs.WordLaws.{front-matches}
 use Rattle.desktop.proofs.masking.pcn_masks.Statement.{statement}
 use Rattle.desktop.proofs.masking.pcn_masks.Tie as tie
 
@@ -17,7 +17,7 @@ slice-aggregate-masks-by : tie.Need-slice-aggregate-masks-by
 slice-aggregate-masks-by c = sym (length-take-le _ _ (c .before .if1 .taken))
 
 masks-by-requires : tie.Need-masks-by-requires
-masks-by-requires c κs = front-stands _ (c .before .before .if1 .taken) (c .before .before .before .word-count .ensures .1)
+masks-by-requires c κs = front-matches _ (c .before .before .if1 .taken) (c .before .before .before .word-count .ensures .1)
 
 same-length : tie.Need-same-length
 same-length c = search needs
@@ -32,7 +32,7 @@ slice-aggregate-masks-by-2 : tie.Need-slice-aggregate-masks-by-2
 slice-aggregate-masks-by-2 c = sym (length-take-le _ _ (c .before .before .word-count .ensures .0))
 
 masks-by-requires-2 : tie.Need-masks-by-requires-2
-masks-by-requires-2 c κs = let counted = c .before .before .before .word-count .ensures in front-stands _ (counted .0) (counted .1)
+masks-by-requires-2 c κs = let counted = c .before .before .before .word-count .ensures in front-matches _ (counted .0) (counted .1)
 
 same-length-2 : tie.Need-same-length-2
 same-length-2 c = search needs

@@ -1,9 +1,9 @@
--- `desktop::trimming::pcn_trim` meets its contract: the front of a local list, short or long, stands for the mask list.
+-- `desktop::trimming::pcn_trim` meets its contract: the front of a local list, short or long, matches the mask list.
 -- Assumes nothing.
 use mathlib.Core.Path.{sym}
 use lib.Seq.{length-take-le}
 use borrow.Author.Needs.{needs}
-use Rattle.desktop.proofs.WordLaws.{front-stands}
+use Rattle.desktop.proofs.WordLaws.{front-matches}
 use Rattle.desktop.proofs.trimming.pcn_trim.Statement.{statement}
 use Rattle.desktop.proofs.trimming.pcn_trim.Tie as tie
 
@@ -17,7 +17,7 @@ slice-aggregate-trim-by : tie.Need-slice-aggregate-trim-by
 slice-aggregate-trim-by c = sym (length-take-le _ _ (c .before .if1 .taken))
 
 trim-by-requires : tie.Need-trim-by-requires
-trim-by-requires c κs = front-stands _ (c .before .before .before .if1 .taken) (c .before .before .before .before .word-count .ensures .1)
+trim-by-requires c κs = front-matches _ (c .before .before .before .if1 .taken) (c .before .before .before .before .word-count .ensures .1)
 
 same-length : tie.Need-same-length
 same-length c = search needs
@@ -35,7 +35,7 @@ slice-aggregate-trim-by-2 : tie.Need-slice-aggregate-trim-by-2
 slice-aggregate-trim-by-2 c = sym (length-take-le _ _ (c .before .before .word-count .ensures .0))
 
 trim-by-requires-2 : tie.Need-trim-by-requires-2
-trim-by-requires-2 c κs = let counted = c .before .before .before .before .word-count .ensures in front-stands _ (counted .0) (counted .1)
+trim-by-requires-2 c κs = let counted = c .before .before .before .before .word-count .ensures in front-matches _ (counted .0) (counted .1)
 
 same-length-3 : tie.Need-same-length-3
 same-length-3 c = search needs

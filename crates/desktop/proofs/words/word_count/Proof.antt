@@ -4,17 +4,17 @@ use mathlib.Core.Path.{_≡_}
 use Prim.Native.Nat.{ℕ, _+_, _/_, _%_, _≤_, _<_}
 use native.Mathlib.Omega.{arith}
 use Rattle.netlist.specs.Limits.{maxCount}
-use Rattle.desktop.specs.Words.{StandsFor}
+use Rattle.desktop.specs.Words.{Matches}
 use Rattle.desktop.proofs.words.word_count.Statement.{statement}
 use Rattle.desktop.proofs.words.word_count.Tie as tie
 
-whole : (bytes : ℕ) → bytes % 8 ≡ 0 → bytes / 8 ≤ maxCount → StandsFor (bytes / 8) bytes
+whole : (bytes : ℕ) → bytes % 8 ≡ 0 → bytes / 8 ≤ maxCount → Matches (bytes / 8) bytes
 whole bytes e h = record { there = λ l. omega arith; back = λ n l q. omega arith }
 
-part-word : (bytes : ℕ) → (bytes % 8 ≡ 0 → ⊥) → StandsFor (maxCount + 1) bytes
+part-word : (bytes : ℕ) → (bytes % 8 ≡ 0 → ⊥) → Matches (maxCount + 1) bytes
 part-word bytes e = record { there = λ l. omega arith; back = λ n l q. absurd (e (omega arith)) }
 
-too-long : (bytes : ℕ) → maxCount < bytes / 8 → StandsFor (maxCount + 1) bytes
+too-long : (bytes : ℕ) → maxCount < bytes / 8 → Matches (maxCount + 1) bytes
 too-long bytes h = record { there = λ l. omega arith; back = λ n l q. omega arith }
 
 returns : tie.Need-returns
