@@ -1,57 +1,52 @@
-/* Times the library for the desktop beside plain C, in one process.
-   Assumes a quiet machine; it prints times and demands equal answers only. */
+/* Times the operations of the library beside plain C, in one process.
+   Assumes a quiet machine; it prints times and demands equal results only. */
 
-#include "../../include/pcn.h"
-#include "../model/model.h"
-#include "plain_trim.h"
+#include "../harness/operations.h"
+#include "plain.h"
 #include "rows.h"
-#include "sweeps.h"
 
-static uint64_t library_check(const struct lent *lent)
+static uint64_t masks_in_c(const struct lent *lent)
 {
-    return pcn_check(lent->file, lent->length);
-}
-
-static uint64_t plain_check(const struct lent *lent)
-{
-    return model_check(lent->file, lent->length);
-}
-
-static uint64_t library_masks(const struct lent *lent)
-{
-    return pcn_masks(lent->file, lent->length, lent->list, lent->list_length);
-}
-
-static uint64_t plain_masks(const struct lent *lent)
-{
-    return sweeps_masks(lent->file, lent->length, lent->list,
-                        lent->list_length);
-}
-
-static uint64_t library_trim(const struct lent *lent)
-{
-    return pcn_trim(lent->file, lent->length, lent->list, lent->list_length,
-                    lent->next, lent->next_length);
+    return plain_masks(BYTES_OF(lent, 0), BYTES_OF(lent, 1));
 }
 
 static uint64_t trim_in_c(const struct lent *lent)
 {
-    return plain_trim(lent->file, lent->length, lent->list, lent->list_length,
-                      lent->next, lent->next_length);
+    return plain_trim(BYTES_OF(lent, 0), BYTES_OF(lent, 1),
+                      BYTES_OF(lent, 2));
+}
+
+static uint64_t start_in_c(const struct lent *lent)
+{
+    return plain_start(BYTES_OF(lent, 0), WORDS_OF(lent, 1));
+}
+
+static uint64_t cycle_in_c(const struct lent *lent)
+{
+    return plain_cycle(BYTES_OF(lent, 0), WORDS_OF(lent, 1),
+                       WORDS_OF(lent, 2));
 }
 
 static const struct row rows[] = {
-    { "check, all kinds", library_check, plain_check, all_kinds,
+    { "check, all kinds", &check_operation, NULL, all_kinds,
       { 64, 256, 1024, 2048 } },
-    { "masks, feedback", library_masks, plain_masks, feedback,
+    { "masks, feedback", &masks_operation, masks_in_c, feedback,
       { 64, 256, 1024, 2048 } },
-    { "masks, combinational", library_masks, plain_masks, combinational,
+    { "masks, combinational", &masks_operation, masks_in_c, combinational,
       { 64, 256, 1024, 2048 } },
-    { "masks, 2,000 registers", library_masks, plain_masks, chain,
+    { "masks, 2,000 registers", &masks_operation, masks_in_c, chain,
       { 2002, 0, 0, 0 } },
-    { "trim, feedback", library_trim, trim_in_c, feedback,
+    { "trim, feedback", &trim_operation, trim_in_c, feedback,
       { 64, 256, 1024, 2048 } },
-    { "trim, combinational", library_trim, trim_in_c, combinational,
+    { "trim, combinational", &trim_operation, trim_in_c, combinational,
+      { 64, 256, 1024, 2048 } },
+    { "cycle, no multipliers", &cycle_operation, cycle_in_c, clocked,
+      { 64, 256, 1024, 2048 } },
+    { "cycle, all kinds", &cycle_operation, cycle_in_c, clocked_with_mul,
+      { 64, 256, 1024, 2048 } },
+    { "cycle, multipliers", &cycle_operation, cycle_in_c, multipliers,
+      { 64, 256, 1024, 2048 } },
+    { "start", &start_operation, start_in_c, clocked_with_mul,
       { 64, 256, 1024, 2048 } }
 };
 

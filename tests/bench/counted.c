@@ -3,7 +3,7 @@
 
 #include "counted.h"
 
-uint64_t counted(operation *call, const struct lent *lent)
+uint64_t counted(function *call, const struct lent *lent)
 {
     return call(lent);
 }

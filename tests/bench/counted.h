@@ -4,8 +4,8 @@
 #ifndef COUNTED_H
 #define COUNTED_H
 
-#include "../outside/lent.h"
+#include "../harness/operation.h"
 
-uint64_t counted(operation *call, const struct lent *lent);
+uint64_t counted(function *call, const struct lent *lent);
 
 #endif

@@ -51,6 +51,17 @@ def time_rows(program):
     return rows, int(rounds), int(length)
 
 
+def best_rows(programs):
+    """The same of all programs together: the best time of each side in any
+    of them, and all their rounds."""
+    (rows, rounds, length), *others = [time_rows(program)
+                                       for program in programs]
+    for more, _, _ in others:
+        for row, again in zip(rows, more):
+            row.times = tuple(map(min, row.times, again.times))
+    return rows, rounds * len(programs), length
+
+
 def calls_counted(path):
     """The instructions of each call that was counted, in order."""
     calls = []

@@ -1,22 +1,21 @@
 /* One switch for each record of an accepted file, in place on the lists.
    Assumes a little-endian machine and gcc, as the benchmark does. */
 
-#include "plain_cycle.h"
-
 #include <string.h>
 
 #include "../model/model.h"
 #include "../model/record.h"
-#include "words.h"
+#include "load.h"
+#include "plain.h"
 
 /* The word of the record whose number stands at `p`. */
-static inline uint64_t operand(const uint8_t *list, const uint8_t *p)
+static inline uint64_t operand(const uint64_t *list, const uint8_t *p)
 {
-    return load_64(list + 8 * (size_t)read_16(p));
+    return list[read_16(p)];
 }
 
 /* The lowest record whose word is too wide; there is one. */
-static uint32_t too_wide(const uint8_t *file, const uint8_t *board)
+static uint32_t too_wide(const uint8_t *file, const uint64_t *board)
 {
     uint32_t i = 0;
 
@@ -24,7 +23,7 @@ static uint32_t too_wide(const uint8_t *file, const uint8_t *board)
         uint8_t kind = kind_at(file, i);
 
         if ((kind == KIND_INPUT || kind == KIND_REGISTER)
-            && load_64(board + 8 * (size_t)i) & ~width_mask(width_at(file, i)))
+            && board[i] & ~width_mask(width_at(file, i)))
             return i;
     }
 }
@@ -33,7 +32,7 @@ static uint32_t too_wide(const uint8_t *file, const uint8_t *board)
    lists the registers. No branch hangs on the kinds, which come in no order
    that could be foreseen. */
 static uint64_t look_over(const uint8_t *restrict file, uint32_t count,
-                          const uint8_t *restrict board,
+                          const uint64_t *restrict board,
                           uint16_t *restrict registers, uint32_t *found)
 {
     const uint8_t *p = file + HEADER_BYTES;
@@ -45,7 +44,7 @@ static uint64_t look_over(const uint8_t *restrict file, uint32_t count,
         int is_register = p[0] == KIND_REGISTER;
         uint64_t given = 0 - (uint64_t)(is_register | (p[0] == KIND_INPUT));
 
-        beyond |= load_64(board + 8 * (size_t)i) >> (p[1] - 1) >> 1 & given;
+        beyond |= board[i] >> (p[1] - 1) >> 1 & given;
         registers[number] = (uint16_t)i;
         number += (uint32_t)is_register;
     }
@@ -57,7 +56,7 @@ static uint64_t look_over(const uint8_t *restrict file, uint32_t count,
    that is put on it later has no bit beyond the width, so nothing else needs
    to cut it. */
 static inline uint64_t result(const uint8_t *file, const uint8_t *p,
-                              const uint8_t *board, uint64_t own)
+                              const uint64_t *board, uint64_t own)
 {
     switch (p[0]) {
     case KIND_INPUT:
@@ -93,8 +92,8 @@ static inline uint64_t result(const uint8_t *file, const uint8_t *p,
     }
 }
 
-uint64_t plain_start(const uint8_t *file, size_t length, uint8_t *board,
-                     size_t board_length)
+uint64_t plain_start(const uint8_t *file, size_t length, uint64_t *board,
+                     size_t board_words)
 {
     uint64_t answer = model_check(file, length);
     uint32_t count = (uint32_t)answer, i;
@@ -102,17 +101,16 @@ uint64_t plain_start(const uint8_t *file, size_t length, uint8_t *board,
 
     if (answer >> 63)
         return answer;
-    if (board_length != 8 * (size_t)count)
+    if (board_words != count)
         return model_refused(11, 0);
     for (i = 0; i < count; i++, p += RECORD_BYTES)
-        store_64(board + 8 * (size_t)i,
-                 load_64(p + 8) & (0 - (uint64_t)(p[0] == KIND_REGISTER)));
+        board[i] = load_64(p + 8) & (0 - (uint64_t)(p[0] == KIND_REGISTER));
     return 0;
 }
 
 uint64_t plain_cycle(const uint8_t *restrict file, size_t length,
-                     uint8_t *restrict board, size_t board_length,
-                     uint8_t *restrict next, size_t next_length)
+                     uint64_t *restrict board, size_t board_words,
+                     uint64_t *restrict next, size_t next_words)
 {
     uint64_t answer = model_check(file, length);
     uint32_t count = (uint32_t)answer, registers_found, i;
@@ -121,19 +119,15 @@ uint64_t plain_cycle(const uint8_t *restrict file, size_t length,
 
     if (answer >> 63)
         return answer;
-    if (board_length != 8 * (size_t)count || next_length != board_length)
+    if (board_words != count || next_words != count)
         return model_refused(11, 0);
     if (look_over(file, count, board, registers, &registers_found) != 0)
         return model_refused(12, too_wide(file, board));
-    for (i = 0; i < count; i++, p += RECORD_BYTES) {
-        uint8_t *own = board + 8 * (size_t)i;
-
-        store_64(own, result(file, p, board, load_64(own))
-                          & load_64(p + 16));
-    }
-    memset(next, 0, next_length);
+    for (i = 0; i < count; i++, p += RECORD_BYTES)
+        board[i] = result(file, p, board, board[i]) & load_64(p + 16);
+    memset(next, 0, 8 * next_words);
     for (i = 0; i < registers_found; i++)
-        store_64(next + 8 * (size_t)registers[i],
-                 operand(board, record_at(file, registers[i]) + 2));
+        next[registers[i]] = operand(board,
+                                     record_at(file, registers[i]) + 2);
     return 0;
 }

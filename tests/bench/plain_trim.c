@@ -1,14 +1,12 @@
 /* The masks by whole sweeps, a copy of the file, and then the keep words.
    Assumes a little-endian machine and gcc, as the benchmark does. */
 
-#include "plain_trim.h"
-
 #include <string.h>
 
 #include "../model/model.h"
 #include "../model/record.h"
-#include "sweeps.h"
-#include "words.h"
+#include "load.h"
+#include "plain.h"
 
 enum { KEEP_AT = 16 };
 
@@ -33,7 +31,7 @@ uint64_t plain_trim(const uint8_t *restrict file, size_t length,
 
     if (destination_length != length)
         return misfit(file, length, masks_length);
-    answer = sweeps_masks(file, length, masks, masks_length);
+    answer = plain_masks(file, length, masks, masks_length);
     if (answer >> 63)
         return answer;
     memcpy(destination, file, length);

@@ -10,48 +10,59 @@
 #include "counted.h"
 #include "timing.h"
 
-/* What the two lists of a file held. */
+/* What was in the memory lent for a design, its file included. */
 struct held {
-    uint8_t list[8 * COUNT_LIMIT];
-    uint8_t next[LONGEST_FILE];
+    uint8_t bytes[PARAMETERS][LONGEST_FILE];
 };
 
-static void keep_lists(struct held *held, const struct lent *lent)
+static void hold(struct held *held, const struct lent *lent)
 {
-    memcpy(held->list, lent->list, lent->list_length);
-    memcpy(held->next, lent->next, lent->next_length);
+    unsigned i;
+
+    for (i = 0; i < PARAMETERS; i++)
+        if (lent->of[i].length != 0)
+            memcpy(held->bytes[i], lent->of[i].bytes, lent->of[i].length);
 }
 
 static void put_back(const struct held *held, const struct lent *lent)
 {
-    memcpy(lent->list, held->list, lent->list_length);
-    memcpy(lent->next, held->next, lent->next_length);
+    unsigned i;
+
+    for (i = 0; i < PARAMETERS; i++)
+        if (lent->of[i].length != 0)
+            memcpy(lent->of[i].bytes, held->bytes[i], lent->of[i].length);
 }
 
 static int still_held(const struct held *held, const struct lent *lent)
 {
-    return memcmp(lent->list, held->list, lent->list_length) == 0
-        && memcmp(lent->next, held->next, lent->next_length) == 0;
+    unsigned i;
+
+    for (i = 0; i < PARAMETERS; i++)
+        if (lent->of[i].length != 0
+            && memcmp(lent->of[i].bytes, held->bytes[i], lent->of[i].length))
+            return 0;
+    return 1;
 }
 
-/* Both must accept every file with the same answer, and leave the same bytes
-   in the lists. The counts rely on the order: a call of the library and then
-   one of plain C, for each design. */
-static int same_results(const struct row *row, const struct workload *work)
+/* Both must accept every design with the same answer, and leave the same
+   bytes. The counts rely on the order: a call of the library and then one of
+   plain C, for each design. */
+static int same_results(function *library, function *plain,
+                        const struct workload *work)
 {
     static struct held before, left;
     uint32_t i;
 
     for (i = 0; i < work->files; i++) {
         const struct lent *lent = &work->lent[i];
-        uint64_t library, plain;
+        uint64_t one, two;
 
-        keep_lists(&before, lent);
-        library = counted(row->library, lent);
-        keep_lists(&left, lent);
+        hold(&before, lent);
+        one = counted(library, lent);
+        hold(&left, lent);
         put_back(&before, lent);
-        plain = counted(row->plain, lent);
-        if (library >> 63 || library != plain || !still_held(&left, lent))
+        two = counted(plain, lent);
+        if (one >> 63 || one != two || !still_held(&left, lent))
             return 0;
     }
     return 1;
@@ -60,16 +71,19 @@ static int same_results(const struct row *row, const struct workload *work)
 static int run_row(const struct row *row, uint32_t count, int once)
 {
     static struct workload work;
+    function *library = row->operation->library;
+    function *plain = row->plain != NULL ? row->plain : row->operation->model;
 
+    work.operation = row->operation;
     row->make(&work, count);
-    if (!same_results(row, &work)) {
+    if (!same_results(library, plain, &work)) {
         fprintf(stderr, "%s: the results differ at %" PRIu32 " records\n",
                 row->name, count);
         return 0;
     }
     printf("%s\t%" PRIu32 "\t%" PRIu32, row->name, count, work.files);
     if (!once) {
-        struct times times = time_both(row->library, row->plain, &work);
+        struct times times = time_both(library, plain, &work);
 
         printf("\t%.6f\t%.6f", times.library, times.plain);
     }

@@ -1,4 +1,4 @@
-/* The rows of a benchmark: an operation of a library beside plain C.
+/* The rows of the benchmark: an operation of the library beside plain C.
    Assumes a quiet machine; equal results are demanded, and no times. */
 
 #ifndef ROWS_H
@@ -7,16 +7,17 @@
 #include <stddef.h>
 #include <stdint.h>
 
-#include "../outside/lent.h"
+#include "../harness/operation.h"
 #include "workloads.h"
 
 enum { ROW_COUNTS = 4 };
 
-/* The rows of an operation on one sort of design; count 0 is no row. */
+/* The rows of an operation on one sort of design. Where no plain C is named,
+   the model's function stands for it; count 0 is no row. */
 struct row {
     const char *name;
-    operation *library;
-    operation *plain;
+    const struct operation *operation;
+    function *plain;
     workload_maker *make;
     uint32_t counts[ROW_COUNTS];
 };

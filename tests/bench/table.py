@@ -2,10 +2,9 @@
 Assumes built programs: table.py [--write DOCUMENT] PROGRAM..."""
 
 import sys
-from os.path import basename
 
 from machine import machine_lines
-from measure import can_count, count_rows, time_rows
+from measure import best_rows, can_count, count_rows
 
 BEGIN = "<!-- measured: begin -->\n"
 END = "<!-- measured: end -->\n"
@@ -18,7 +17,7 @@ GOALS = {
     "masks, 2,000 registers": 0.8,
     "trim, feedback": 1.1,
     "trim, combinational": 0.9,
-    "cycle, no multipliers": 1.3,
+    "cycle, no multipliers": 1.0,
 }
 SIDES = "library", "plain C"
 
@@ -107,15 +106,13 @@ def measured(programs):
     """Runs everything and gives the lines of the measured part."""
     counting = can_count()
     lines = machine_lines(counting)
-    rows = []
-    for program in programs:
-        print(f"{basename(program)}: about 20 seconds", file=sys.stderr)
-        more, rounds, length = time_rows(program)
-        if counting:
-            count_rows(program, more)
-        rows += more
+    print("about 40 seconds", file=sys.stderr)
+    rows, rounds, length = best_rows(programs)
+    if counting:
+        count_rows(programs[0], rows)
     lines.append(f"- Times: the best of {rounds} rounds of at least"
-                 f" {length // 1000} ms; library and plain C take turns.")
+                 f" {length // 1000} ms, in {len(programs)} programs;"
+                 " library and plain C take turns.")
     return (lines + ["", "### Times and instructions", ""] + main_table(rows)
             + [""] + verdict(rows)
             + ["", f"### Growth from {rows[0].records} records", ""]

@@ -19,7 +19,7 @@ static double microseconds(void)
 }
 
 /* So many turns over all files. */
-static double time_turns(operation *call, const struct workload *work,
+static double time_turns(function *call, const struct workload *work,
                          unsigned long turns)
 {
     double start = microseconds();
@@ -33,7 +33,7 @@ static double time_turns(operation *call, const struct workload *work,
 }
 
 /* Enough turns for one round; they also warm the cache. */
-static unsigned long turns_per_round(operation *call,
+static unsigned long turns_per_round(function *call,
                                      const struct workload *work)
 {
     unsigned long turns = 1;
@@ -43,7 +43,7 @@ static unsigned long turns_per_round(operation *call,
     return turns;
 }
 
-static void keep_better(double *best, operation *call,
+static void keep_better(double *best, function *call,
                         const struct workload *work, unsigned long turns)
 {
     double calls = (double)turns * work->files;
@@ -54,7 +54,7 @@ static void keep_better(double *best, operation *call,
 }
 
 /* The two take turns, so that a change of clock speed meets both. */
-struct times time_both(operation *library, operation *plain,
+struct times time_both(function *library, function *plain,
                        const struct workload *work)
 {
     unsigned long library_turns = turns_per_round(library, work);

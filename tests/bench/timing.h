@@ -4,12 +4,12 @@
 #ifndef TIMING_H
 #define TIMING_H
 
-#include "../outside/lent.h"
+#include "../harness/operation.h"
 #include "workloads.h"
 
 /* A round is kept short, and there are many: a round in which another program
    got the core is then one of many, and the best one is without it. */
-enum { ROUNDS = 75, ROUND_MICROSECONDS = 3000 };
+enum { ROUNDS = 20, ROUND_MICROSECONDS = 3000 };
 
 /* Microseconds for one call of each, on the average over all files. */
 struct times {
@@ -17,7 +17,7 @@ struct times {
     double plain;
 };
 
-struct times time_both(operation *library, operation *plain,
+struct times time_both(function *library, function *plain,
                        const struct workload *work);
 
 #endif

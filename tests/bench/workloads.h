@@ -1,26 +1,26 @@
 /* The designs that the benchmark runs on, several files to a workload.
-   Assumes one workload at a time, since all share the same lists. */
+   Assumes one workload at a time, since all share the same memory. */
 
 #ifndef WORKLOADS_H
 #define WORKLOADS_H
 
-#include "../outside/lent.h"
-#include "../outside/netlist.h"
+#include "../harness/operation.h"
 
 enum {
     MOST_FILES = 8,
     LONGEST_FILE = HEADER_BYTES + RECORD_BYTES * COUNT_LIMIT
 };
 
-/* What is lent for each file: the file itself, a list for its masks and a
-   destination, or a board list and a next list of its own. */
+/* What the operation is lent for each design. The operation is named before
+   the designs are made. */
 struct workload {
-    uint32_t count;
+    const struct operation *operation;
     uint32_t files;
     struct lent lent[MOST_FILES];
 };
 
-/* Each fills the workload with designs of this many records. */
+/* Each fills the workload with designs of this many records, for which the
+   operation's calls are accepted. */
 typedef void workload_maker(struct workload *work, uint32_t count);
 
 workload_maker all_kinds;     /* random designs with all kinds alike */
@@ -28,12 +28,12 @@ workload_maker feedback;      /* random designs, many registers */
 workload_maker combinational; /* random designs without registers */
 workload_maker chain;         /* registers that each read the next one */
 
-/* Random designs of many widths with inputs, registers and outputs, and board
-   lists that a cycle accepts: of all kinds but mul, or of all kinds. */
+/* Random designs of many widths with inputs, registers and outputs: of all
+   kinds but mul, or of all kinds. */
 workload_maker clocked;
 workload_maker clocked_with_mul;
 
-/* One design that is nearly all multipliers of 64 bits, with such lists. */
+/* One design for cycles that is nearly all multipliers of 64 bits. */
 workload_maker multipliers;
 
 #endif

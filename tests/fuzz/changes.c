@@ -3,9 +3,9 @@
 
 #include "changes.h"
 
-#include "../outside/damage.h"
-#include "../outside/designs.h"
-#include "../outside/styles.h"
+#include "../harness/damage.h"
+#include "../harness/designs.h"
+#include "../harness/styles.h"
 #include "records.h"
 #include "repair.h"
 

@@ -4,8 +4,8 @@
 #ifndef CHANGES_H
 #define CHANGES_H
 
-#include "../outside/netlist.h"
-#include "../outside/rng.h"
+#include "../harness/netlist.h"
+#include "../harness/rng.h"
 
 /* Makes one change, drawn from all of them. */
 void change_netlist(struct rng *rng, struct netlist *net);

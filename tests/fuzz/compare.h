@@ -1,23 +1,15 @@
-/* One operation: to the library twice, to the model once, and compared.
-   Assumes lists of at most LENT_ROOM bytes; one call at a time. */
+/* One call of an operation, compared with the model by the harness.
+   Assumes that a difference ends the process, and libFuzzer saves the input. */
 
 #ifndef COMPARE_H
 #define COMPARE_H
 
-#include <stdint.h>
+#include "../harness/guard.h"
 
-#include "../outside/guard.h"
-#include "calls.h"
-
-/* To be called once, before anything else. From then on a signal that comes
-   from outside the library aborts, so that libFuzzer saves the input. */
-void compare_begin(void);
-
-/* Calls the library with its memory against a forbidden page behind it, and
-   placed as told, and then the model on copies of its own. Answers and every
-   byte have to be the same; else the process ends with a message. The lists
-   then hold what the library left there, and its answer is given. */
-uint64_t compared(const struct call *call, const struct lent *lent,
+/* Tries the call as try_call of the harness does, the second time with the
+   memory placed as told. The memory lent then holds what the library left
+   there, and its answer is given. */
+uint64_t compared(const struct operation *operation, const struct lent *lent,
                   const struct placing *front);
 
 #endif

@@ -5,9 +5,9 @@
 
 #include <string.h>
 
-#include "../outside/rng.h"
+#include "../harness/rng.h"
 
-enum { ANY_LENGTH = 8 * 2050 };
+enum { LONGEST = 8 * 2050, PLACED = 3 };
 
 static struct called read_call(uint8_t byte)
 {
@@ -23,6 +23,12 @@ static struct called read_call(uint8_t byte)
     return called;
 }
 
+/* Four bits: the low half of each byte goes before its high half. */
+static unsigned half_byte(const uint8_t *bytes, unsigned number)
+{
+    return bytes[number / 2] >> 4 * (number % 2) & 15;
+}
+
 size_t control_read(struct control *control, const uint8_t *input,
                     size_t size)
 {
@@ -31,14 +37,11 @@ size_t control_read(struct control *control, const uint8_t *input,
     unsigned i;
 
     memcpy(bytes, input + size - there, there);
-    control->list = bytes[0] & 15;
-    control->destination = bytes[0] >> 4;
-    control->board = bytes[1] & 15;
-    control->next = bytes[1] >> 4;
+    for (i = 0; i < LENGTHS; i++)
+        control->lengths[i] = half_byte(bytes, i);
     control->front.edge = AT_FRONT;
-    control->front.file_away = bytes[2] & 15;
-    control->front.list_away = bytes[2] >> 4;
-    control->front.next_away = bytes[3] & 15;
+    for (i = 0; i < PARAMETERS; i++)
+        control->front.away[i] = half_byte(bytes + 2, i % PLACED);
     control->fill = bytes[3] >> 4 & 7;
     control->any_board = bytes[3] >> 7;
     control->seed = (uint32_t)bytes[4] | (uint32_t)bytes[5] << 8
@@ -48,8 +51,8 @@ size_t control_read(struct control *control, const uint8_t *input,
     return size - there;
 }
 
-size_t chosen_length(const struct control *control, unsigned choice,
-                     size_t right)
+static size_t any_length(const struct control *control, unsigned choice,
+                         size_t right)
 {
     switch (choice) {
     case 8:
@@ -67,13 +70,26 @@ size_t chosen_length(const struct control *control, unsigned choice,
     case 14:
         return 2 * right;
     case 15:
-        return control->seed % ANY_LENGTH;
+        return control->seed % LONGEST;
     default:
         return right;
     }
 }
 
-void fill_list(const struct control *control, unsigned number, uint8_t *list,
+/* Whole words are found away from the right length, so that a wrong one stays
+   wrong. */
+size_t chosen_length(const struct control *control, unsigned number,
+                     size_t right, int in_words)
+{
+    size_t length = any_length(control, control->lengths[number % LENGTHS],
+                               right);
+
+    if (in_words)
+        return (length < right ? length : length + 7) / 8 * 8;
+    return length;
+}
+
+void fill_list(const struct control *control, unsigned number, void *list,
                size_t length)
 {
     static const uint8_t bytes[4] = { 0x00, 0xff, 0xa5, 0x01 };

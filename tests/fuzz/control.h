@@ -7,25 +7,25 @@
 #include <stddef.h>
 #include <stdint.h>
 
-#include "../outside/guard.h"
+#include "../harness/guard.h"
 
 /* An input is a file and, behind it, these bytes, so that any file with them
    put behind it is an input. An input of fewer bytes has an empty file, and
    the bytes that it lacks are 0. With 0 everywhere all lengths are right, and
-   no start or cycle is called.
+   there is no run.
 
-       0     lengths of the mask list (low half) and of the destination
-       1     lengths of the board list and of the next list
-       2     how far the file and the first list are from a forbidden page
-       3     how far the second list is (low half); bits 4 to 6: what lists
-             hold before a call; bit 7: so does the first board list, and its
-             words are then as good as never within the widths
-       4-7   a seed for words
+       0-1   lengths, four bits for each: of the lists of an operation in
+             turn; in a run, byte 1 is for the board list and the next list
+       2-3   how far from a forbidden page the parameters are in turn, four
+             bits for each of three; bits 4 to 6 of byte 3: what lists hold
+             before a call; bit 7: so does the first board list of a run, and
+             its words are then as good as never within the widths
+       4-7   a seed for words and numbers
        8-15  the calls of a run */
 
-enum { CONTROL_BYTES = 16, CALLS = 8 };
+enum { CONTROL_BYTES = 16, CALLS = 8, LENGTHS = 4 };
 
-/* No longer input is tried, and no list is longer. */
+/* No longer input is tried, and no list of a run is longer. */
 enum { INPUT_ROOM = 65536, LENT_ROOM = 2 * INPUT_ROOM + 64 };
 
 /* One call of a run: what is called, whether its lists have the lengths that
@@ -41,10 +41,7 @@ struct called {
 };
 
 struct control {
-    unsigned list;
-    unsigned destination;
-    unsigned board;
-    unsigned next;
+    unsigned lengths[LENGTHS];
     struct placing front;
     unsigned fill;
     int any_board;
@@ -56,12 +53,13 @@ struct control {
 size_t control_read(struct control *control, const uint8_t *input,
                     size_t size);
 
-/* The length that is chosen for a list whose right length is this one. */
-size_t chosen_length(const struct control *control, unsigned choice,
-                     size_t right);
+/* The length that is chosen for the list of this number, when this one is
+   right: whole words in a list of words. */
+size_t chosen_length(const struct control *control, unsigned number,
+                     size_t right, int in_words);
 
 /* Fills a list; lists of other numbers get other bytes. */
-void fill_list(const struct control *control, unsigned number, uint8_t *list,
+void fill_list(const struct control *control, unsigned number, void *list,
                size_t length);
 
 #endif

@@ -3,7 +3,7 @@
 
 #include <string.h>
 
-#include "../outside/damage.h"
+#include "../harness/damage.h"
 #include "changes.h"
 #include "control.h"
 #include "fuzzer.h"

@@ -4,7 +4,7 @@
 #ifndef RECORDS_H
 #define RECORDS_H
 
-#include "../outside/netlist.h"
+#include "../harness/netlist.h"
 
 /* Reads as many whole records as there are, up to NETLIST_ROOM; the header is
    made to fit them. */

@@ -39,6 +39,7 @@ static uint32_t alike_record(const struct netlist *net, uint32_t named,
     return number < limit ? number : other;
 }
 
+/* A place far beyond the operand becomes its highest one. */
 static void make_extract(const struct netlist *net, struct record *record)
 {
     unsigned from = net->records[record->operand[0]].width;
@@ -46,6 +47,8 @@ static void make_extract(const struct netlist *net, struct record *record)
     record->kind = KIND_EXTRACT;
     if (record->width > from)
         record->width = (uint8_t)from;
+    if (record->k >= WIDTH_LIMIT)
+        record->k = from - record->width;
     record->k %= from - record->width + 1u;
 }
 

@@ -4,7 +4,7 @@
 #ifndef REPAIR_H
 #define REPAIR_H
 
-#include "../outside/netlist.h"
+#include "../harness/netlist.h"
 
 /* After this, check accepts the netlist. A record that fits already stays as
    it is. */

@@ -7,40 +7,42 @@
 #include <string.h>
 
 #include "../../include/pcn.h"
-#include "../model/record.h"
-#include "../outside/lists.h"
-#include "../outside/scramble.h"
-#include "../outside/settled.h"
+#include "../harness/operations.h"
+#include "../harness/words.h"
+#include "../runs/scramble.h"
 #include "compare.h"
 #include "fault.h"
 #include "seen.h"
 
-/* The second judge of clocking is slow, so it sees short designs only. */
-enum { JUDGED_COUNT = 64 };
-
 enum { BOARD_FILL = 200, NEXT_FILL = 300 };
+
+enum { BOARD_LENGTH = 2, NEXT_LENGTH = 3 };
 
 enum { ANY_WORDS = 5 };
 
+typedef uint64_t list[LENT_ROOM / 8];
+
 /* A run: its file, its board list, and the two lists that a call is lent. */
 struct run {
-    const uint8_t *file;
-    uint8_t board[LENT_ROOM];
-    uint8_t list[LENT_ROOM];
-    uint8_t next[LENT_ROOM];
+    uint8_t *file;
+    list board;
+    list lent;
+    list next;
 };
 
 static const struct subject *design;
+static list masks;
+static uint8_t trimmed[INPUT_ROOM];
 static struct run first, second;
 
-static uint64_t word_at(const uint8_t *list, uint32_t number)
+static size_t list_length(void)
 {
-    return read_64(list + 8 * (size_t)number);
+    return 8 * (size_t)design->count;
 }
 
-static void put_word(uint8_t *list, uint32_t number, uint64_t word)
+static const uint8_t *record_of(uint32_t number)
 {
-    write_64(list + 8 * (size_t)number, word);
+    return record_at(design->files->bytes, number);
 }
 
 /* A word for an input or a register, in one of several styles. */
@@ -63,15 +65,28 @@ static uint64_t draw_word(struct rng *rng, unsigned style, unsigned width)
 /* Words with the same cared bits for the second run. A bit at the width or
    above stays, so that both runs are refused or neither is. */
 static void put_both(struct rng *rng, uint32_t number, uint64_t word,
-                     uint8_t *one, uint8_t *two)
+                     uint64_t *one, uint64_t *two)
 {
-    unsigned width = width_at(design->file, number);
+    unsigned width = record_of(number)[1];
     uint64_t wide = word & ~width_mask(width);
 
-    put_word(one, number, word);
-    put_word(two, number, wide | alike(rng, word & ~wide,
-                                       word_at(design->masks, number),
-                                       width));
+    one[number] = word;
+    two[number] = wide | alike(rng, word & ~wide, masks[number], width);
+}
+
+/* The masks and the trimmed file, which the second run is of. */
+static void trim_design(void)
+{
+    struct file *file = design->files;
+
+    first.file = file->bytes;
+    second.file = trimmed;
+    if (!design->accepted)
+        return;
+    pcn_trim(file->bytes, file->length, (uint8_t *)masks, list_length(),
+             trimmed, file->length);
+    seen_masks(file->bytes, masks,
+               memcmp(trimmed, file->bytes, file->length) != 0);
 }
 
 /* The first board lists: equal in the cared bits of the registers, and any
@@ -79,21 +94,18 @@ static void put_both(struct rng *rng, uint32_t number, uint64_t word,
 static void begin(void)
 {
     const struct control *control = design->control;
-    size_t length = 8 * (size_t)design->count;
     struct rng rng = rng_for(control->seed, CALLS);
     uint32_t i;
 
-    first.file = design->file;
-    second.file = design->trimmed;
-    fill_list(control, BOARD_FILL, first.board, length);
-    rng_fill(&rng, second.board, length);
+    fill_list(control, BOARD_FILL, first.board, list_length());
+    rng_fill(&rng, (uint8_t *)second.board, list_length());
     for (i = 0; design->accepted && i < design->count; i++) {
-        uint64_t word = word_at(first.board, i);
+        uint64_t word = first.board[i];
 
-        if (kind_at(design->file, i) != KIND_REGISTER)
+        if (record_of(i)[0] != KIND_REGISTER)
             continue;
         if (!control->any_board)
-            word = draw_word(&rng, ANY_WORDS, width_at(design->file, i));
+            word = draw_word(&rng, ANY_WORDS, record_of(i)[1]);
         put_both(&rng, i, word, first.board, second.board);
     }
 }
@@ -104,10 +116,9 @@ static void put_inputs(struct rng *rng, const struct called *called)
     uint32_t i;
 
     for (i = 0; i < design->count; i++)
-        if (kind_at(design->file, i) == KIND_INPUT)
-            put_both(rng, i, draw_word(rng, called->style,
-                                       width_at(design->file, i)),
-                     first.list, second.list);
+        if (record_of(i)[0] == KIND_INPUT)
+            put_both(rng, i, draw_word(rng, called->style, record_of(i)[1]),
+                     first.lent, second.lent);
 }
 
 /* A bit at the width or above in two words of each list. It matters where the
@@ -119,30 +130,30 @@ static void put_wide(struct rng *rng)
 
     for (i = 0; i < 2 && design->count > 0; i++) {
         uint32_t number = rng_below(rng, design->count);
-        unsigned width = width_at(design->file, number);
+        unsigned width = record_of(number)[1];
         uint64_t bit;
 
         if (width == 64)
             continue;
         bit = (uint64_t)1 << rng_between(rng, width, 63);
-        put_word(first.list, number, word_at(first.list, number) | bit);
-        put_word(second.list, number, word_at(second.list, number) | bit);
+        first.lent[number] |= bit;
+        second.lent[number] |= bit;
     }
 }
 
 /* The lists of a call: the board list, with words put into it for a cycle. A
    list that is too long goes on with what lists are filled with. */
-static void lend(unsigned number, size_t board_length)
+static void fill_lent(unsigned number, size_t board_length)
 {
     const struct called *called = &design->control->calls[number];
-    size_t right = 8 * (size_t)design->count;
+    size_t right = list_length();
     struct rng rng = rng_for(design->control->seed, number);
 
-    fill_list(design->control, BOARD_FILL + number, first.list,
+    fill_list(design->control, BOARD_FILL + number, first.lent,
               board_length > right ? board_length : right);
-    memcpy(second.list, first.list, board_length);
-    memcpy(first.list, first.board, right);
-    memcpy(second.list, second.board, right);
+    memcpy(second.lent, first.lent, board_length);
+    memcpy(first.lent, first.board, right);
+    memcpy(second.lent, second.board, right);
     if (!design->accepted || called->what != A_CYCLE)
         return;
     put_inputs(&rng, called);
@@ -150,43 +161,26 @@ static void lend(unsigned number, size_t board_length)
         put_wide(&rng);
 }
 
-/* Whether the lists of an accepted call follow from the file; the model is
-   not asked. A start has the board list only. */
-static void judge(const struct run *run, const struct call *call,
-                  const uint8_t *before)
-{
-    struct cycled cycled = { run->file, before, run->list, run->next };
-    const char *wrong;
-
-    if (design->count > JUDGED_COUNT)
-        return;
-    wrong = call == &start_call ? start_fault(run->file, run->list)
-                                : cycle_fault(&cycled);
-    if (wrong != NULL)
-        fault(call->name, "%s", wrong);
-}
-
 /* Makes a call. If it is accepted, the run goes on with the board list that
    it leaves: the one of a start, the next list of a cycle. */
-static uint64_t make_call(struct run *run, const struct call *call,
+static uint64_t make_call(struct run *run, const struct operation *operation,
                           unsigned number, const size_t *lengths)
 {
-    static uint8_t before[LENT_ROOM];
-    struct lent lent = { run->file, design->length, run->list, lengths[0],
-                         run->next, call == &start_call ? 0 : lengths[1] };
+    struct lent lent = { {
+        { run->file, design->files->length, 0 },
+        { (uint8_t *)run->lent, lengths[0], 0 },
+        { (uint8_t *)run->next, lengths[1], 0 }
+    } };
     uint64_t answer;
 
-    memcpy(before, run->list, lengths[0]);
-    fill_list(design->control, NEXT_FILL + number, run->next,
-              lent.next_length);
-    answer = compared(call, &lent, &design->control->front);
+    fill_list(design->control, NEXT_FILL + number, run->next, lengths[1]);
+    answer = compared(operation, &lent, &design->control->front);
     if (PCN_REFUSED(answer)) {
         if (design->accepted)
             seen_refused(run->file, answer);
         return answer;
     }
-    judge(run, call, before);
-    memcpy(run->board, call == &start_call ? run->list : run->next,
+    memcpy(run->board, operation == &start_operation ? run->lent : run->next,
            lengths[0]);
     return answer;
 }
@@ -197,14 +191,13 @@ static void compare_values(unsigned number)
     uint32_t i;
 
     for (i = 0; i < design->count; i++) {
-        uint64_t one = word_at(first.list, i), two = word_at(second.list, i);
-        uint64_t mask = word_at(design->masks, i);
-        int is_output = kind_at(design->file, i) == KIND_OUTPUT;
+        uint64_t one = first.lent[i], two = second.lent[i];
+        int is_output = record_of(i)[0] == KIND_OUTPUT;
 
-        if (((one ^ two) & mask) != 0 || (is_output && one != two))
+        if (((one ^ two) & masks[i]) != 0 || (is_output && one != two))
             fault("two runs", "call %u: signal %" PRIu32 " has %016" PRIx64
                   " in the trimmed run, %016" PRIx64 " in the first, mask %016"
-                  PRIx64, number, i, two, one, mask);
+                  PRIx64, number, i, two, one, masks[i]);
     }
 }
 
@@ -212,28 +205,28 @@ static void make_calls(unsigned number)
 {
     const struct control *control = design->control;
     const struct called *called = &control->calls[number];
-    const struct call *call = called->what == A_START ? &start_call
-                                                      : &cycle_call;
+    const struct operation *operation
+        = called->what == A_START ? &start_operation : &cycle_operation;
     size_t lengths[2];
     uint64_t answer;
 
-    lengths[0] = lengths[1] = 8 * (size_t)design->count;
+    lengths[0] = lengths[1] = list_length();
     if (called->lengths_chosen) {
-        lengths[0] = chosen_length(control, control->board, lengths[0]);
-        lengths[1] = chosen_length(control, control->next, lengths[1]);
+        lengths[0] = chosen_length(control, BOARD_LENGTH, lengths[0], 1);
+        lengths[1] = chosen_length(control, NEXT_LENGTH, lengths[1], 1);
     }
-    lend(number, lengths[0]);
-    answer = make_call(&first, call, number, lengths);
+    fill_lent(number, lengths[0]);
+    answer = make_call(&first, operation, number, lengths);
     if (!design->accepted)
         return;
-    if (make_call(&second, call, number, lengths) != answer)
+    if (make_call(&second, operation, number, lengths) != answer)
         fault("two runs", "call %u has another answer for the trimmed file",
               number);
-    if (PCN_REFUSED(answer) || call == &start_call)
+    if (PCN_REFUSED(answer) || operation == &start_operation)
         return;
     compare_values(number);
-    seen_values(design->file, first.list,
-                memcmp(first.list, second.list, lengths[0]) != 0);
+    seen_values(design->files->bytes, first.lent,
+                memcmp(first.lent, second.lent, lengths[0]) != 0);
 }
 
 void try_runs(const struct subject *subject)
@@ -241,6 +234,7 @@ void try_runs(const struct subject *subject)
     unsigned i;
 
     design = subject;
+    trim_design();
     begin();
     for (i = 0; i < CALLS; i++)
         if (subject->control->calls[i].what != NO_CALL)

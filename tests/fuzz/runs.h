@@ -1,10 +1,10 @@
 /* A run of a design and one of the trimmed file, compared call by call.
-   Assumes that check, masks and trim of the file have been tried. */
+   Assumes that every operation has been tried on the file. */
 
 #ifndef RUNS_H
 #define RUNS_H
 
-#include "trims.h"
+#include "each.h"
 
 /* Makes the calls that the input chooses. A file that is refused is handed to
    start and cycle all the same. */

@@ -4,9 +4,9 @@
 #include <stdio.h>
 #include <stdlib.h>
 
-#include "../outside/designs.h"
-#include "../outside/families.h"
-#include "../outside/styles.h"
+#include "../harness/designs.h"
+#include "../harness/families.h"
+#include "../harness/styles.h"
 #include "control.h"
 
 enum { SEED = 20240609, DESIGNS = 8 * STYLES, DAMAGED = 4 * FAMILIES };

@@ -8,11 +8,11 @@
 #include <string.h>
 
 #include "../../include/pcn.h"
-#include "../model/record.h"
-#include "../outside/netlist.h"
+#include "../harness/netlist.h"
+#include "../harness/operations.h"
 #include "fault.h"
 
-enum { REFUSALS = 13, AMOUNTS = 3 };
+enum { REFUSALS = 32, AMOUNTS = 3 };
 
 /* The cases, each a byte. An input that meets a case for the first time is
    kept, as one is that reaches new code of the model: the model is short, and
@@ -20,7 +20,7 @@ enum { REFUSALS = 13, AMOUNTS = 3 };
    an input. */
 enum {
     REFUSED_KIND = 0, /* refusal number, kind of the record or of none */
-    CARED = REFUSED_KIND + (REFUSALS + 1) * (KIND_COUNT + 1),
+    CARED = REFUSED_KIND + REFUSALS * (KIND_COUNT + 1),
                       /* kind, ones in its mask, ones in its keep word */
     VALUED = CARED + KIND_COUNT * AMOUNTS * AMOUNTS,
                       /* kind, ones in a value */
@@ -48,13 +48,14 @@ static struct {
     unsigned long cleared;
     unsigned long cycles;
     unsigned long differed;
-    unsigned long refused[REFUSALS + 1];
+    unsigned long refused[REFUSALS];
     unsigned long kinds[KIND_COUNT];
 } counts;
 
 static void write_counts(void)
 {
     FILE *out = fopen(getenv("PCN_FUZZ_COUNTS"), "w");
+    uint64_t possible = 0;
     unsigned i;
 
     if (out == NULL) {
@@ -66,8 +67,11 @@ static void write_counts(void)
     fprintf(out, "cleared %lu\n", counts.cleared);
     fprintf(out, "cycles %lu\n", counts.cycles);
     fprintf(out, "differed %lu\n", counts.differed);
-    for (i = 1; i <= REFUSALS; i++)
-        fprintf(out, "refused %u %lu\n", i, counts.refused[i]);
+    for (i = 0; i < OPERATIONS; i++)
+        possible |= operations[i]->refusals;
+    for (i = 1; i < REFUSALS; i++)
+        if (possible & REFUSAL(i))
+            fprintf(out, "refused %u %lu\n", i, counts.refused[i]);
     for (i = 0; i < KIND_COUNT; i++)
         fprintf(out, "kind %u %lu\n", i, counts.kinds[i]);
     fclose(out);
@@ -95,14 +99,15 @@ void seen_input(void)
 }
 
 /* The kind byte of the record that was refused. KIND_COUNT stands for one
-   that is no kind, and for refusals that name no record. */
+   that is no kind, and for refusals that name no record of the file. */
 static unsigned refused_kind(const uint8_t *file, uint64_t answer)
 {
     unsigned refusal = PCN_REFUSAL(answer);
     unsigned kind;
 
     if (refusal < PCN_BAD_KIND || refusal == PCN_BAD_LIST
-        || refusal == PCN_BAD_DESTINATION)
+        || refusal == PCN_BAD_DESTINATION
+        || PCN_RECORD(answer) >= read_16(file + 6))
         return KIND_COUNT;
     kind = kind_at(file, PCN_RECORD(answer));
     return kind < KIND_COUNT ? kind : KIND_COUNT;
@@ -192,7 +197,7 @@ static void note_record(const uint8_t *file, const struct record *record,
               + kind_at(file, record->operand[i])] = 1;
 }
 
-void seen_masks(const uint8_t *file, const uint8_t *masks, int cleared)
+void seen_masks(const uint8_t *file, const uint64_t *masks, int cleared)
 {
     uint32_t count = read_16(file + 6);
     uint32_t i;
@@ -201,11 +206,11 @@ void seen_masks(const uint8_t *file, const uint8_t *masks, int cleared)
     for (i = 0; i < count; i++) {
         struct record record = read_record(file, i);
 
-        note_record(file, &record, read_64(masks + 8 * (size_t)i));
+        note_record(file, &record, masks[i]);
     }
 }
 
-void seen_values(const uint8_t *file, const uint8_t *values, int differed)
+void seen_values(const uint8_t *file, const uint64_t *values, int differed)
 {
     uint32_t count = read_16(file + 6);
     uint32_t i;
@@ -214,6 +219,5 @@ void seen_values(const uint8_t *file, const uint8_t *values, int differed)
     counts.differed += (unsigned long)differed;
     for (i = 0; i < count; i++)
         cases[VALUED + kind_at(file, i) * AMOUNTS
-              + amount(read_64(values + 8 * (size_t)i),
-                       width_at(file, i))] = 1;
+              + amount(values[i], width_at(file, i))] = 1;
 }

@@ -24,10 +24,10 @@ void seen_checked(const uint8_t *file, uint64_t answer);
 void seen_refused(const uint8_t *file, uint64_t answer);
 
 /* The masks of an accepted file, and whether trimming it clears a bit. */
-void seen_masks(const uint8_t *file, const uint8_t *masks, int cleared);
+void seen_masks(const uint8_t *file, const uint64_t *masks, int cleared);
 
 /* The values of an accepted cycle, and whether some value of the run beside it
    was another. */
-void seen_values(const uint8_t *file, const uint8_t *values, int differed);
+void seen_values(const uint8_t *file, const uint64_t *values, int differed);
 
 #endif

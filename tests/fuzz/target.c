@@ -1,12 +1,13 @@
-/* The fuzz target: one input is one file, and calls of all five operations.
+/* The fuzz target: one input is one file, and calls of all operations.
    Assumes libFuzzer, which makes the inputs and saves one that aborts. */
 
-#include "compare.h"
-#include "control.h"
+#include <string.h>
+
+#include "../harness/options.h"
+#include "each.h"
 #include "fuzzer.h"
 #include "runs.h"
 #include "seen.h"
-#include "trims.h"
 
 /* Blocks live for one call, so a long list of freed ones would only take
    memory. Looking for leaks needs rights that not every machine gives, and
@@ -18,27 +19,30 @@ const char *__asan_default_options(void)
     return "quarantine_size_mb=4:detect_leaks=0";
 }
 
+/* Failing calls are saved where the tests save them; there is no seed. */
 int LLVMFuzzerInitialize(int *argc, char ***argv)
 {
     (void)argc;
-    (void)argv;
-    compare_begin();
+    options_begin(1, *argv);
     seen_begin();
     return 0;
 }
 
 int LLVMFuzzerTestOneInput(const uint8_t *input, size_t size)
 {
+    static struct file files[FILES];
     struct control control;
-    struct subject subject = { 0 };
+    struct subject subject = { files, &control, 0, 0 };
+    unsigned i;
 
     if (size > INPUT_ROOM)
         return 0;
-    subject.file = input;
-    subject.length = control_read(&control, input, size);
-    subject.control = &control;
+    for (i = 0; i < FILES; i++) {
+        files[i].length = control_read(&control, input, size);
+        memcpy(files[i].bytes, input, files[i].length);
+    }
     seen_input();
-    try_trims(&subject);
+    try_each(&subject);
     try_runs(&subject);
     return 0;
 }

@@ -1,18 +1,8 @@
-/* The plain model's start and cycle on lists of little-endian words.
+/* The plain model's start and cycle on lists of words.
    Assumes that the file and the lists do not overlap. */
 
 #include "model.h"
 #include "record.h"
-
-static uint64_t word_at(const uint8_t *list, uint32_t number)
-{
-    return read_64(list + 8 * (size_t)number);
-}
-
-static void put_word(uint8_t *list, uint32_t number, uint64_t word)
-{
-    write_64(list + 8 * (size_t)number, word);
-}
 
 /* Sums, differences and products modulo 2^64, of which the width takes the
    low bits, and the comparisons. */
@@ -36,18 +26,18 @@ static uint64_t worked_out(uint8_t kind, uint64_t a, uint64_t b)
    values of the earlier records, and an input's or register's own word. An
    unused operand is 0 and names a word of the board all the same. */
 static uint64_t result(const uint8_t *file, uint32_t number,
-                       const uint8_t *board)
+                       const uint64_t *board)
 {
     struct record record = read_record(file, number);
     uint64_t full = width_mask(record.width);
-    uint64_t a = word_at(board, record.operand[0]);
-    uint64_t b = word_at(board, record.operand[1]);
-    uint64_t c = word_at(board, record.operand[2]);
+    uint64_t a = board[record.operand[0]];
+    uint64_t b = board[record.operand[1]];
+    uint64_t c = board[record.operand[2]];
 
     switch (record.kind) {
     case KIND_INPUT:
     case KIND_REGISTER:
-        return word_at(board, number);
+        return board[number];
     case KIND_CONSTANT:
         return record.k;
     case KIND_OUTPUT:
@@ -78,37 +68,37 @@ static int is_given(const uint8_t *file, uint32_t number)
 
 /* Refusal 12 for the lowest record it applies to, or 0. */
 static uint64_t board_refusal(const uint8_t *file, uint32_t count,
-                              const uint8_t *board)
+                              const uint64_t *board)
 {
     uint32_t i;
 
     for (i = 0; i < count; i++)
         if (is_given(file, i)
-            && (word_at(board, i) & ~width_mask(width_at(file, i))) != 0)
+            && (board[i] & ~width_mask(width_at(file, i))) != 0)
             return model_refused(12, i);
     return 0;
 }
 
-uint64_t model_start(const uint8_t *file, size_t length, uint8_t *board,
-                     size_t board_length)
+uint64_t model_start(const uint8_t *file, size_t length, uint64_t *board,
+                     size_t board_words)
 {
     uint64_t answer = model_check(file, length);
     uint32_t count = (uint32_t)answer, i;
 
     if (answer >> 63)
         return answer;
-    if (board_length != 8 * (size_t)count)
+    if (board_words != count)
         return model_refused(11, 0);
     for (i = 0; i < count; i++) {
         struct record record = read_record(file, i);
 
-        put_word(board, i, record.kind == KIND_REGISTER ? record.k : 0);
+        board[i] = record.kind == KIND_REGISTER ? record.k : 0;
     }
     return 0;
 }
 
 /* The values of all records in rising order, each changed at once. */
-static void work_out(const uint8_t *file, uint32_t count, uint8_t *board,
+static void work_out(const uint8_t *file, uint32_t count, uint64_t *board,
                      model_change *change, void *context)
 {
     uint32_t i;
@@ -116,13 +106,13 @@ static void work_out(const uint8_t *file, uint32_t count, uint8_t *board,
     for (i = 0; i < count; i++) {
         uint64_t value = result(file, i, board) & read_record(file, i).keep;
 
-        put_word(board, i, change(context, i, value));
+        board[i] = change(context, i, value);
     }
 }
 
 uint64_t model_changed_cycle(const uint8_t *file, size_t length,
-                             uint8_t *board, size_t board_length,
-                             uint8_t *next, size_t next_length,
+                             uint64_t *board, size_t board_words,
+                             uint64_t *next, size_t next_words,
                              model_change *change, void *context)
 {
     uint64_t answer = model_check(file, length);
@@ -130,7 +120,7 @@ uint64_t model_changed_cycle(const uint8_t *file, size_t length,
 
     if (answer >> 63)
         return answer;
-    if (board_length != 8 * (size_t)count || next_length != board_length)
+    if (board_words != count || next_words != count)
         return model_refused(11, 0);
     answer = board_refusal(file, count, board);
     if (answer >> 63)
@@ -139,8 +129,8 @@ uint64_t model_changed_cycle(const uint8_t *file, size_t length,
     for (i = 0; i < count; i++) {
         struct record record = read_record(file, i);
 
-        put_word(next, i, record.kind == KIND_REGISTER
-                              ? word_at(board, record.operand[0]) : 0);
+        next[i] = record.kind == KIND_REGISTER
+            ? board[record.operand[0]] : 0;
     }
     return 0;
 }
@@ -152,9 +142,9 @@ static uint64_t unchanged(void *context, uint32_t number, uint64_t value)
     return value;
 }
 
-uint64_t model_cycle(const uint8_t *file, size_t length, uint8_t *board,
-                     size_t board_length, uint8_t *next, size_t next_length)
+uint64_t model_cycle(const uint8_t *file, size_t length, uint64_t *board,
+                     size_t board_words, uint64_t *next, size_t next_words)
 {
-    return model_changed_cycle(file, length, board, board_length, next,
-                               next_length, unchanged, NULL);
+    return model_changed_cycle(file, length, board, board_words, next,
+                               next_words, unchanged, NULL);
 }

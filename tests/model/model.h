@@ -29,14 +29,14 @@ uint64_t model_trim(const uint8_t *file, size_t length, uint8_t *masks,
 
 /* Writes the reset states into the board list; accepted, it gives 0. Refused,
    it leaves the list as it was. */
-uint64_t model_start(const uint8_t *file, size_t length, uint8_t *board,
-                     size_t board_length);
+uint64_t model_start(const uint8_t *file, size_t length, uint64_t *board,
+                     size_t board_words);
 
 /* One cycle: the values into the board list and the states that follow into
    the next list; accepted, it gives 0. Refused, it leaves both as they
    were. */
-uint64_t model_cycle(const uint8_t *file, size_t length, uint8_t *board,
-                     size_t board_length, uint8_t *next, size_t next_length);
+uint64_t model_cycle(const uint8_t *file, size_t length, uint64_t *board,
+                     size_t board_words, uint64_t *next, size_t next_words);
 
 /* What a record's value is changed to as soon as it is there. */
 typedef uint64_t model_change(void *context, uint32_t number, uint64_t value);
@@ -45,8 +45,8 @@ typedef uint64_t model_change(void *context, uint32_t number, uint64_t value);
    next list get what `change` gives. The changed values must stay within the
    widths. */
 uint64_t model_changed_cycle(const uint8_t *file, size_t length,
-                             uint8_t *board, size_t board_length,
-                             uint8_t *next, size_t next_length,
+                             uint64_t *board, size_t board_words,
+                             uint64_t *next, size_t next_words,
                              model_change *change, void *context);
 
 #endif

@@ -1,0 +1,127 @@
+/* The meaning of every kind on one record, worked out by hand.
+   Assumes inputs that hold the operands' words. */
+
+#include "../harness/known.h"
+#include "parts.h"
+
+#define ALL 0xffffffffffffffffu
+#define TOP 0x8000000000000000u
+
+/* A record and three inputs of these widths, of which it reads as many as its
+   kind does; the keep word, which is cut to the width; the inputs' words, and
+   the value that it must have. */
+struct meaning {
+    const char *name;
+    uint8_t kind;
+    unsigned widths[4];
+    uint64_t k, keep, words[3], value;
+};
+
+#define ONE(name, kind, w, of, k, keep, a, value) \
+    { "meaning: " name, KIND_##kind, { w, of, 1, 1 }, k, keep, { a, 0, 0 }, \
+      value }
+#define TWO(name, kind, w, a_w, b_w, keep, a, b, value) \
+    { "meaning: " name, KIND_##kind, { w, a_w, b_w, 1 }, 0, keep, \
+      { a, b, 0 }, value }
+#define JOIN(name, a_w, b_w, keep, a, b, value) \
+    TWO("concat " name, CONCAT, a_w + b_w, a_w, b_w, keep, a, b, value)
+#define ALIKE(name, kind, w, keep, a, b, value) \
+    TWO(name, kind, w, w, w, keep, a, b, value)
+#define COMPARE(name, kind, of, keep, a, b, value) \
+    TWO(name, kind, 1, of, of, keep, a, b, value)
+#define CHOOSE(name, w, keep, a, b, c, value) \
+    { "meaning: mux " name, KIND_MUX, { w, 1, w, w }, 0, keep, { a, b, c }, \
+      value }
+
+static const struct meaning meanings[] = {
+    ONE("constant", CONSTANT, 8, 1, 0xa5, ALL, 0, 0xa5),
+    ONE("constant of 64 bits", CONSTANT, 64, 1, ALL, ALL, 0, ALL),
+    ONE("constant, cut", CONSTANT, 8, 1, 0xa5, 0x3c, 0, 0x24),
+    ONE("output", OUTPUT, 8, 8, 0, ALL, 0xc3, 0xc3),
+    ONE("output of 64 bits", OUTPUT, 64, 64, 0, ALL, ALL - 1, ALL - 1),
+    ONE("output, cut", OUTPUT, 8, 8, 0, 0x81, 0xc3, 0x81),
+
+    ONE("extract of 4 at 60 from 64", EXTRACT, 4, 64, 60, ALL,
+        0xb000000000000000u, 0xb),
+    ONE("extract of all 64", EXTRACT, 64, 64, 0, ALL, 0x123456789abcdef0u,
+        0x123456789abcdef0u),
+    ONE("extract drops what is above", EXTRACT, 4, 16, 4, ALL, 0xfafe, 0xf),
+    ONE("extract drops what is below", EXTRACT, 8, 16, 8, ALL, 0x12ff, 0x12),
+    ONE("extract, cut", EXTRACT, 8, 16, 4, 0x0f, 0xabcd, 0x0c),
+
+    JOIN("of 4 and 8", 4, 8, ALL, 0xa, 0x5b, 0xa5b),
+    JOIN("of 1 and 63", 1, 63, ALL, 1, 2, TOP + 2),
+    JOIN("of 32 and 32", 32, 32, ALL, 0x12345678u, 0x9abcdef0u,
+         0x123456789abcdef0u),
+    JOIN("cut", 4, 8, 0x30c, 0xf, 0xff, 0x30c),
+
+    ALIKE("and", AND, 4, ALL, 0xc, 0xa, 0x8),
+    ALIKE("or", OR, 4, ALL, 0xc, 0xa, 0xe),
+    ALIKE("xor", XOR, 4, ALL, 0xc, 0xa, 0x6),
+    ALIKE("and, cut", AND, 4, 0x7, 0xf, 0xf, 0x7),
+    ALIKE("or, cut", OR, 4, 0xb, 0xc, 0xa, 0xa),
+    ALIKE("xor, cut", XOR, 4, 0x2, 0xc, 0xa, 0x2),
+
+    CHOOSE("with 1", 8, ALL, 1, 0x12, 0x34, 0x12),
+    CHOOSE("with 0", 8, ALL, 0, 0x12, 0x34, 0x34),
+    CHOOSE("of 64 bits with 1", 64, ALL, 1, ALL, TOP, ALL),
+    CHOOSE("cut", 8, 0x1c, 0, 0xff, 0x14, 0x14),
+
+    ALIKE("add", ADD, 8, ALL, 100, 55, 155),
+    ALIKE("add, carry dropped at 8", ADD, 8, ALL, 200, 100, 44),
+    ALIKE("add, carry dropped at 64", ADD, 64, ALL, ALL, 2, 1),
+    ALIKE("add, carry into bit 63", ADD, 64, ALL, ~TOP, 1, TOP),
+    ALIKE("add, cut after the sum", ADD, 8, 0x10, 0x0f, 1, 0x10),
+    ALIKE("sub", SUB, 8, ALL, 100, 55, 45),
+    ALIKE("0 - 1 at width 8 is 255", SUB, 8, ALL, 0, 1, 255),
+    ALIKE("sub below 0 at 64", SUB, 64, ALL, 0, 1, ALL),
+    ALIKE("sub, cut after the difference", SUB, 8, 0xf0, 0x10, 1, 0),
+    ALIKE("mul", MUL, 8, ALL, 12, 11, 132),
+    ALIKE("mul, cut to 8 bits", MUL, 8, ALL, 255, 255, 1),
+    ALIKE("mul, cut to 32 bits", MUL, 32, ALL, 0xffffffffu, 0xfffffffeu, 2),
+    ALIKE("mul beyond 32 bits", MUL, 64, ALL, 0xffffffffu, 0xffffffffu,
+          0xfffffffe00000001u),
+    ALIKE("hex 100000001 squared at 64 is 8589934593", MUL, 64, ALL,
+          0x100000001u, 0x100000001u, 8589934593u),
+    ALIKE("mul, cut to 64 bits", MUL, 64, ALL, ALL, ALL, 1),
+    ALIKE("mul, cut after the product", MUL, 8, 0x40, 9, 9, 0x40),
+
+    COMPARE("equal", EQUAL, 8, 1, 0x5a, 0x5a, 1),
+    COMPARE("not equal in the top bit", EQUAL, 8, 1, 0x5a, 0xda, 0),
+    COMPARE("not equal in bit 63", EQUAL, 64, 1, TOP, 0, 0),
+    COMPARE("not equal in bit 32", EQUAL, 64, 1, 0x100000000u, 0, 0),
+    COMPARE("equal, nothing kept", EQUAL, 8, 0, 1, 1, 0),
+    COMPARE("below", BELOW, 8, 1, 3, 4, 1),
+    COMPARE("below: equal ones are not", BELOW, 8, 1, 4, 4, 0),
+    COMPARE("below: a greater one is not", BELOW, 8, 1, 5, 4, 0),
+    COMPARE("below has no signs at 8", BELOW, 8, 1, 0x7f, 0x80, 1),
+    COMPARE("below has no signs at 64", BELOW, 64, 1, ~TOP, TOP, 1),
+    COMPARE("below: the most is not below 0", BELOW, 64, 1, ALL, 0, 0),
+    COMPARE("below, nothing kept", BELOW, 8, 0, 1, 2, 0)
+};
+
+void clock_kinds(void)
+{
+    static const uint64_t nothing[READER + 1];
+    static struct netlist net;
+    size_t i;
+
+    for (i = 0; i < sizeof meanings / sizeof *meanings; i++) {
+        const struct meaning *meaning = &meanings[i];
+        struct rng rng = rng_for(6, i);
+        uint64_t values[READER + 1];
+        struct lent lent;
+
+        test_begin(meaning->name);
+        reader_make(&net, meaning->kind, meaning->widths, meaning->k);
+        net.records[READER].keep &= meaning->keep;
+        lent = lend(&cycle_operation, &rng, &net);
+        memcpy(words_of(&lent, BOARD), meaning->words, sizeof meaning->words);
+        memcpy(values, meaning->words, sizeof meaning->words);
+        values[READER] = meaning->value;
+        expect_call(&cycle_operation, &lent, 0);
+        demand_words("board list", &lent.of[BOARD], values, READER + 1);
+        demand_words("next list", &lent.of[NEXT], nothing, READER + 1);
+        test_end();
+    }
+}

@@ -1,0 +1,116 @@
+/* Works out the least masks by the care rules of 01, one bit of D at a time.
+   Assumes an accepted file and a list of 8 bytes for each of its records. */
+
+#include <string.h>
+
+#include "../harness/operations.h"
+
+/* What all records together ask of each, the bits for which each has asked its
+   operands, and whether more was asked since this was last cleared. */
+static uint64_t asked[COUNT_LIMIT], passed_on[COUNT_LIMIT];
+static int is_more;
+
+static void ask(uint32_t number, unsigned lowest, unsigned highest)
+{
+    uint64_t bits = ~(uint64_t)0 >> (63 - highest) & ~(uint64_t)0 << lowest;
+
+    is_more |= (bits & ~asked[number]) != 0;
+    asked[number] |= bits;
+}
+
+/* What this bit of D asks of the operands. */
+static void ask_for_bit(const uint8_t *file, const struct record *record,
+                        unsigned bit)
+{
+    uint32_t a = record->operand[0], b = record->operand[1];
+    unsigned lowest = bit, highest = bit, low;
+
+    switch (record->kind) {
+    case KIND_INPUT:
+    case KIND_CONSTANT:
+        return;
+    case KIND_REGISTER:
+    case KIND_OUTPUT:
+        ask(a, bit, bit);
+        return;
+    case KIND_EXTRACT:
+        ask(a, bit + (unsigned)record->k, bit + (unsigned)record->k);
+        return;
+    case KIND_CONCAT:
+        low = width_at(file, b);
+        if (bit < low)
+            ask(b, bit, bit);
+        else
+            ask(a, bit - low, bit - low);
+        return;
+    case KIND_MUX:
+        a = record->operand[2];
+        break;
+    case KIND_EQUAL:
+    case KIND_BELOW:
+        highest = width_at(file, a) - 1u;
+        /* Fall through. */
+    case KIND_ADD:
+    case KIND_SUB:
+    case KIND_MUL:
+        lowest = 0;
+    }
+    ask(a, lowest, highest);
+    ask(b, lowest, highest);
+}
+
+/* An output has all its bits and a mux its selector, whoever reads them. What
+   D asks for was asked before but for its new bits. */
+static void ask_for_all(const uint8_t *file, uint32_t number)
+{
+    struct record record = read_record(file, number);
+    unsigned bit;
+    uint64_t d;
+
+    if (record.kind == KIND_OUTPUT)
+        ask(number, 0, record.width - 1u);
+    if (record.kind == KIND_MUX)
+        ask(record.operand[0], 0, 0);
+    d = asked[number] & record.keep & ~passed_on[number];
+    for (bit = 0; bit < 64 && d >> bit != 0; bit++)
+        if (d >> bit & 1)
+            ask_for_bit(file, &record, bit);
+    passed_on[number] |= d;
+}
+
+/* Up and down the file until nothing more is asked for. */
+static void ask_all(const uint8_t *file, uint32_t count)
+{
+    uint32_t i;
+
+    memset(asked, 0, 8 * (size_t)count);
+    memset(passed_on, 0, 8 * (size_t)count);
+    do {
+        is_more = 0;
+        for (i = count; i-- > 0;)
+            ask_for_all(file, i);
+        for (i = 0; i < count; i++)
+            ask_for_all(file, i);
+    } while (is_more);
+}
+
+/* A mask that is not the least one, or a tally that is not the count. */
+const char *judge_masks(const struct lent *before, const struct lent *after,
+                        uint64_t answer)
+{
+    const uint8_t *file = before->of[0].bytes, *list = after->of[1].bytes;
+    uint32_t count = read_16(file + 6), i;
+    uint64_t tally = 0;
+
+    ask_all(file, count);
+    for (i = 0; i < count; i++) {
+        uint64_t mask = read_64(list + 8 * (size_t)i);
+
+        if (mask != asked[i])
+            return "a mask is not what the care rules ask for";
+        tally += 0x100000000u * (uint64_t)width_at(file, i);
+        for (; mask != 0; mask &= mask - 1)
+            tally++;
+    }
+    return answer == tally ? NULL : "the tally does not count widths and ones";
+}

@@ -1,0 +1,109 @@
+/* Random designs of every style, and which cases of the care rules they meet.
+   Assumes that the judge of a trim looks at its masks and at those after it. */
+
+#include <stdio.h>
+
+#include "../harness/facts.h"
+#include "../harness/known.h"
+#include "../harness/operations.h"
+#include "../harness/report.h"
+#include "../harness/styles.h"
+#include "../harness/trial.h"
+#include "parts.h"
+
+enum { DESIGNS = 4800 };
+
+/* What was met in records of each kind, in sums of any kind, and in designs. */
+static struct facts of_kind[KIND_COUNT], of_sums, of_designs;
+
+/* How its D asks, for kinds that ask in several ways. */
+static void note_asking(struct facts *facts, const struct netlist *net,
+                        uint32_t number, uint64_t d)
+{
+    const struct record *record = &net->records[number];
+    uint32_t a = record->operand[0];
+    uint64_t low = width_mask(net->records[record->operand[1]].width);
+
+    if (record->kind == KIND_REGISTER) {
+        fact(facts, "asks itself", d != 0 && a == number);
+        fact(facts, "asks an earlier record", d != 0 && a < number);
+        fact(facts, "asks a later record", d != 0 && a > number);
+    }
+    if (record->kind == KIND_EXTRACT) {
+        fact(facts, "moves D", d != 0 && record->k > 0);
+        fact(facts, "asks for the top bit",
+             d << record->k >> (net->records[a].width - 1) != 0);
+    }
+    if (record->kind == KIND_CONCAT) {
+        fact(facts, "asks both parts", (d & low) != 0 && (d & ~low) != 0);
+        fact(facts, "asks the high part", d != 0 && (d & low) == 0);
+        fact(facts, "asks the low part", d != 0 && (d & ~low) == 0);
+    }
+    if (record->kind >= KIND_ADD && record->kind <= KIND_MUL) {
+        of_sums.many = 0;
+        fact(&of_sums, "D has gaps", (d & (d + 1)) != 0);
+        fact(&of_sums, "D has bit 63", d >> 63 != 0);
+    }
+}
+
+/* An output has its whole mask, and a comparison one bit only. */
+static void note(const struct netlist *net, uint32_t number, uint64_t mask)
+{
+    const struct record *record = &net->records[number];
+    uint64_t keep = record->keep, d = mask & keep;
+    int is_partly = d != 0 && d != width_mask(record->width);
+    struct facts *facts = &of_kind[record->kind];
+
+    facts->many = 0;
+    fact(facts, "D is the keep word and not 0", d == keep && d != 0);
+    fact(facts, "the keep word is 0, the mask not", keep == 0 && mask != 0);
+    if (record->kind < KIND_EQUAL)
+        fact(facts, "D has some of all bits", is_partly);
+    if (record->kind == KIND_OUTPUT)
+        return;
+    fact(facts, "the keep word is cut to 0", keep != 0 && d == 0);
+    fact(facts, "D is the mask, not the keep word", d == mask && d != keep);
+    if (record->kind < KIND_EQUAL)
+        fact(facts, "D is neither", d != mask && d != keep);
+    note_asking(facts, net, number, d);
+}
+
+static void try_drawn(const struct netlist *net)
+{
+    struct known known = known_call(&trim_operation, net);
+    uint64_t cut = 0;
+    uint32_t i;
+
+    demand_answer(known.answer >> 63, 0);
+    for (i = 0; i < net->count; i++) {
+        uint64_t mask = read_64(known.lent.of[1].bytes + 8 * (size_t)i);
+
+        note(net, i, mask);
+        cut |= net->records[i].keep & ~mask;
+    }
+    of_designs.many = 0;
+    for (i = 0; i < 8; i++)
+        fact(&of_designs, "byte of a keep word cut", cut >> 8 * i & 0xff);
+}
+
+void masks_drawn(uint64_t seed)
+{
+    static struct netlist net;
+    char name[40];
+    unsigned i;
+
+    test_begin("drawn: keep words cut to the masks give the same masks");
+    for (i = 0; i < DESIGNS; i++) {
+        struct rng rng = rng_for(seed, i);
+
+        design_by_turn(&rng, &net, design_count(&rng, 0), i);
+        try_drawn(&net);
+    }
+    test_end();
+    for (i = 0; i < KIND_COUNT; i++) {
+        sprintf(name, "drawn: records of kind %u", i);
+        judge_facts(name, &of_kind[i]);
+    }
+    judge_facts("drawn: sums", &of_sums);
+    judge_facts("drawn: designs", &of_designs);
+}

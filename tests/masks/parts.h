@@ -1,0 +1,13 @@
+/* The parts of the test of masks; each runs several named tests.
+   Assumes that options_begin was called before. */
+
+#ifndef MASKS_PARTS_H
+#define MASKS_PARTS_H
+
+#include <stdint.h>
+
+void masks_grid(void);
+void masks_feedback(void);
+void masks_drawn(uint64_t seed);
+
+#endif

@@ -1,0 +1,111 @@
+/* The test program for masks: examples, small designs, and all other parts.
+   Assumes that the masks of the small designs were worked out by hand. */
+
+#include <stdio.h>
+
+#include "../harness/examples.h"
+#include "../harness/operations.h"
+#include "../harness/options.h"
+#include "../harness/report.h"
+#include "../harness/trial.h"
+#include "parts.h"
+
+/* Designs and their masks. */
+static const struct worked worked[] = {
+    /* The extract asks for fc0, the xor for 80000800, the add for 3. */
+    { "a signal with several readers gets the union",
+      DESIGN(INPUT(32), EXTRACT(6, 0, 6), OUTPUT(6, 1, 0x3f), INPUT(32),
+             KEEPING(0x80000800u, XOR, 32, 0, 3, 0, 0),
+             OUTPUT(32, 4, 0xffffffffu), OF_TWO(ADD, 32, 0, 3),
+             OUTPUT(32, 6, 2)),
+      { 0x80000fc3u, 0x3f, 0x3f, 0x80000803u, 0xffffffffu, 0xffffffffu, 2,
+        0xffffffffu } },
+    /* The mux asks for 7c, the or that it reads keeps 70 of that, and so the
+       difference asks for 7f. */
+    { "a difference below an and, below an or, below a mux",
+      DESIGN(INPUT(8), INPUT(8), OF_TWO(SUB, 8, 0, 1), INPUT(8),
+             OF_TWO(AND, 8, 2, 3), KEEPING(0xf0, OR, 8, 4, 3, 0, 0), INPUT(1),
+             ROW(MUX, 8, 6, 5, 3, 0), OUTPUT(8, 7, 0x7c)),
+      { 0x7f, 0x7f, 0x70, 0x7c, 0x70, 0x7c, 1, 0x7c, 0xff } },
+    /* The square asks for 0f, the concat for 40 above and 01 below. */
+    { "a record that reads one signal twice",
+      DESIGN(INPUT(8), OF_TWO(MUL, 8, 0, 0), OF_TWO(CONCAT, 16, 0, 0),
+             OUTPUT(8, 1, 8), OUTPUT(16, 2, 0x4001)),
+      { 0x4f, 8, 0x4001, 0xff, 0xffff } },
+    { "a mux that also passes its selector on",
+      DESIGN(INPUT(1), INPUT(1), ROW(MUX, 1, 0, 0, 1, 0), OUTPUT(1, 2, 1)),
+      { 1, 1, 1, 1 } },
+    { "the selector of a mux that nobody reads asks its operands",
+      DESIGN(INPUT(16), INPUT(16), OF_TWO(EQUAL, 1, 0, 1), INPUT(8),
+             ROW(MUX, 8, 2, 3, 3, 0)),
+      { 0xffff, 0xffff, 1, 0, 0 } },
+    { "the same with a selector that is not kept",
+      DESIGN(INPUT(16), INPUT(16), KEEPING(0, EQUAL, 1, 0, 1, 0, 0), INPUT(8),
+             ROW(MUX, 8, 2, 3, 3, 0)),
+      { 0, 0, 1, 0, 0 } },
+    { "an output that keeps nothing has all bits and asks for none",
+      DESIGN(INPUT(8), OUTPUT(8, 0, 0)), { 0, 0xff } },
+    { "a keep word leaves the mask of its own signal alone",
+      DESIGN(KEEPING(0x0f, INPUT, 8, 0, 0, 0, 0), OUTPUT(8, 0, 0xff)),
+      { 0xff, 0xff } },
+    { "a keep word on the way cuts what goes further",
+      DESIGN(INPUT(16), CONSTANT(16, 0x1234),
+             KEEPING(0x0ff0, XOR, 16, 0, 1, 0, 0), EXTRACT(8, 2, 8),
+             OUTPUT(8, 3, 0xff)),
+      { 0x0f00, 0x0f00, 0xff00, 0xff, 0xff } },
+    { "a sum in the high part of a word asks for the bits below its own",
+      DESIGN(INPUT(8), INPUT(8), OF_TWO(ADD, 8, 0, 1), INPUT(8),
+             OF_TWO(CONCAT, 16, 2, 3), OUTPUT(16, 4, 0x0400)),
+      { 7, 7, 4, 0, 0x400, 0xffff } },
+    { "a comparison in a part that is not asked for asks for nothing",
+      DESIGN(INPUT(8), INPUT(8), OF_TWO(BELOW, 1, 0, 1), INPUT(1),
+             OF_TWO(CONCAT, 2, 2, 3), OUTPUT(2, 4, 1)),
+      { 0, 0, 0, 1, 1, 3 } },
+    /* It asks itself for what it has already. */
+    { "a register that reads itself and that nobody else reads",
+      DESIGN(REGISTER(8, 0, 0)), { 0 } },
+    { "a register that reads itself",
+      DESIGN(REGISTER(8, 0, 0), OUTPUT(8, 0, 0x24)), { 0x24, 0xff } },
+    { "a register that reads itself and keeps one bit",
+      DESIGN(KEEPING(0x20, REGISTER, 8, 0, 0, 0, 0), OUTPUT(8, 0, 0x24)),
+      { 0x24, 0xff } },
+    /* Bit 3 hangs on bits 0 to 3 of the state and of the step. */
+    { "a counter of which one bit is read",
+      DESIGN(REGISTER(8, 2, 0), CONSTANT(8, 1), OF_TWO(ADD, 8, 0, 1),
+             OUTPUT(8, 0, 8)),
+      { 0xf, 0xf, 0xf, 0xff } },
+    { "two registers that read each other, one of them read",
+      DESIGN(REGISTER(8, 1, 1), REGISTER(8, 0, 2), OUTPUT(8, 0, 0x81)),
+      { 0x81, 0x81, 0xff } }
+};
+
+/* File, list and answer are all written out, so that a slip in the tests'
+   own reader and writer shows. */
+static void ramp_in_bytes(void)
+{
+    struct known known;
+    size_t i;
+
+    test_begin("example: ramp, file and list byte by byte");
+    known = known_file(&masks_operation, ramp_bytes, RAMP_BYTES);
+    demand_answer(known.answer, 0x000000c000000070u);
+    for (i = 0; i < 8 * 7; i++)
+        if (known.lent.of[1].bytes[i] != (i % 8 < 2 ? 255 : 0))
+            test_fail();
+    test_end();
+}
+
+int main(int argc, char **argv)
+{
+    uint64_t seed = options_begin(argc, argv);
+
+    ramp_in_bytes();
+    try_examples(&masks_operation, expect_masks);
+    try_worked(&masks_operation, worked, sizeof worked / sizeof *worked,
+               expect_masks);
+    masks_grid();
+    masks_feedback();
+    masks_drawn(seed);
+    printf("%lu files tried\n", trials_made());
+    return tests_end() ? 0 : 1;
+}

@@ -1,0 +1,85 @@
+/* Counts which cases the pairs of runs met, and which kinds were scrambled.
+   Assumes that the claim itself is judged elsewhere. */
+
+#include <stdio.h>
+
+#include "../harness/facts.h"
+#include "../harness/report.h"
+#include "pair.h"
+
+enum { LEAST_SCRAMBLED = 200, LEAST_PAIRS = 5000 };
+
+static struct facts facts[SORTS];
+static unsigned long pairs[SORTS], scrambled[KIND_COUNT];
+
+static unsigned long sum(const unsigned long *counts, unsigned many)
+{
+    unsigned long all = 0;
+
+    while (many-- > 0)
+        all += counts[many];
+    return all;
+}
+
+void runs_note_pair(const struct masked *masked, unsigned sort,
+                    const struct run *first, const struct run *second,
+                    unsigned met)
+{
+    static const char *const met_names[MET_BITS] = {
+        "a value differed outside its mask", "a word at an input differed",
+        "a state differed outside its mask",
+        "a state differed in a bit of its mask that the keep word clears",
+        "an output was not 0", "a start in mid-run",
+        "more cycles on end than registers"
+    };
+    static const char *const refused_names[2][REFUSED_CYCLES] = {
+        { "first run refused by 11", "by 12", "by 12 for its first state" },
+        { "second run refused by 11", "by 12", "by 12 for its first state" }
+    };
+    struct facts *f = &facts[sort];
+    unsigned i;
+
+    pairs[sort]++;
+    f->many = 0;
+    for (i = 0; i < MET_BITS; i++)
+        fact(f, met_names[i], met >> i & 1);
+    for (i = 0; i < REFUSED_CYCLES; i++) {
+        fact(f, refused_names[0][i], first->refused[i] != 0);
+        fact(f, refused_names[1][i], second->refused[i] != 0);
+    }
+    fact(f, "one run has more calls",
+         sum(first->refused, REFUSED_CYCLES)
+         != sum(second->refused, REFUSED_CYCLES));
+    if (sort & TRIMMED)
+        fact(f, "trimming changed a keep word", masked->cut > 0);
+    if (sort & SCRAMBLED)
+        fact(f, "scrambling changed a value",
+             sum(second->scrambler.changed, KIND_COUNT) > 0);
+    for (i = 0; i < KIND_COUNT; i++)
+        scrambled[i] += second->scrambler.changed[i];
+}
+
+/* An output's mask is full, so there is nothing to scramble in it. */
+void runs_coverage(void)
+{
+    char name[100];
+    unsigned i;
+
+    for (i = 0; i < SORTS; i++) {
+        sprintf(name, "coverage: pairs with the %s", sort_names[i]);
+        judge_facts(name, &facts[i]);
+    }
+    test_begin("coverage: enough pairs, every kind scrambled but for outputs");
+    printf("      pairs %lu, kinds", sum(pairs, SORTS));
+    for (i = 0; i < KIND_COUNT; i++) {
+        printf(" %lu", scrambled[i]);
+        if (i == KIND_OUTPUT ? scrambled[i] != 0
+                             : scrambled[i] < LEAST_SCRAMBLED)
+            test_fail();
+    }
+    printf("\n");
+    for (i = 0; i < SORTS; i++)
+        if (pairs[i] < LEAST_PAIRS)
+            test_fail();
+    test_end();
+}

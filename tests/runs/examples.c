@@ -1,0 +1,146 @@
+/* Pairs of runs by hand: what may differ, and what is no cycle.
+   Assumes words worked out from the paper, for all four second runs. */
+
+#include <inttypes.h>
+#include <stdio.h>
+
+#include "../harness/examples.h"
+#include "../harness/report.h"
+#include "calls.h"
+#include "parts.h"
+
+static struct masked masked;
+static struct run run;
+static unsigned sort;
+
+/* Runs the design, which is made already, as each sort of second run. */
+static void each_sort(const char *name, void (*attempt)(void))
+{
+    test_begin(name);
+    trim_netlist(&masked);
+    for (sort = 0; sort < SORTS; sort++) {
+        run_begin(&run, &masked, sort, rng_for(40, sort));
+        attempt();
+    }
+    test_end();
+}
+
+/* A cycle with these words, and the value that a signal must then have. */
+static void cycle(const uint64_t *words, uint32_t number, uint64_t right)
+{
+    uint64_t value;
+
+    run_cycle(&run, words);
+    value = run_values(&run)[number];
+    if (value != right && test_fail())
+        printf("      signal %" PRIu32 " has %016" PRIx64 " instead of %016"
+               PRIx64 "\n", number, value, right);
+}
+
+/* 100,000 times 70,000 and 5 is hex 1a13b8605, and the output takes 16 bits
+   of it. The other words are the same but for bits above those. */
+static void ramp(void)
+{
+    static const uint64_t words[2][3] = {
+        { 100000, 70000, 5 }, { 0xdead86a0u, 0xbeef1170u, 0x77770005u }
+    };
+    unsigned i;
+
+    for (i = 0; i < 4; i++) {
+        cycle(words[i % 2], 5 + i / 2, 0x8605);
+        run_refused(&run);
+    }
+}
+
+/* The register keeps its low four bits, and only those are asked of the
+   input; so its states differ in bits of its mask that are cleared. */
+static void cleared_bits(void)
+{
+    static const uint64_t words[2][4] = {
+        { 0xa5, 0x3c, 0xff, 0x00 }, { 0x15, 0xfc, 0x0f, 0x80 }
+    };
+    static const uint64_t outputs[4] = { 0x0b, 0x05, 0x0c, 0x0f };
+    int i, j;
+
+    if (masked.masks[0] != 0x0f || masked.masks[1] != 0xff)
+        test_fail();
+    for (i = 0; i < 2; i++) {
+        run_start(&run);
+        for (j = 0; j < 4; j++)
+            cycle(&words[i][j], 2, outputs[j]);
+    }
+}
+
+/* Nothing of the counter is cared for, so any two runs of it are alike. The
+   trimmed one stands still. */
+static void unread_counter(void)
+{
+    uint64_t i;
+
+    run_start(&run);
+    for (i = 0; i < 6 && !(sort & SCRAMBLED); i++)
+        cycle(NULL, i % 2 ? 0 : 2, sort & TRIMMED ? 0 : i % 2 ? i : i + 1);
+}
+
+/* What goes in comes out four cycles later, however many calls are refused
+   in between. All its bits are cared for. */
+static void refused_calls(void)
+{
+    static const char bits[] = "1011001110001111000010100110111";
+    unsigned i, j;
+
+    run_start(&run);
+    for (i = 0; i < sizeof bits - 1; i++) {
+        uint64_t in = bits[i] == '1';
+
+        for (j = 0; j < i % 4; j++)
+            run_refused(&run);
+        cycle(&in, 5, i >= 4 && bits[i - 4] == '1');
+    }
+    if (run.refused[BY_11] == 0 || run.refused[BY_12] == 0)
+        test_fail();
+}
+
+/* The register of four bits is first too wide, so that only a start helps;
+   later ones bring its reset state again. */
+static void starts(void)
+{
+    static const uint64_t in = 1;
+    int i, j;
+
+    run_board(&run)[1] = 0x1f;
+    for (i = 0; i < 20; i++)
+        run_refused(&run);
+    if (run.refused[BY_12_AT_REGISTER] == 0)
+        test_fail();
+    for (i = 0; i < 3; i++) {
+        run_start(&run);
+        run_refused(&run);
+        for (j = 0; j < 7; j++)
+            cycle(&in, 5, j == 2 || j >= 4);
+    }
+}
+
+void runs_examples(void)
+{
+    struct netlist *net = &masked.net;
+
+    example_ramp(net, 16, 0);
+    each_sort("runs: ramp, inputs that differ above bit 15", ramp);
+    netlist_clear(net);
+    netlist_input(net, 8);
+    netlist_add(net, KIND_REGISTER, 8, 0, 0, 0, 0xab);
+    net->records[1].keep = 0x0f;
+    netlist_output(net, 1, 0xff);
+    each_sort("runs: states that differ in bits which the register clears",
+              cleared_bits);
+    example_counter(net);
+    each_sort("runs: a counter that nobody reads, whole and trimmed",
+              unread_counter);
+    example_shift_chain(net);
+    each_sort("runs: shift chain, refused calls are no cycles",
+              refused_calls);
+    net->records[1].k = 4;
+    each_sort("runs: a state too wide before the first start, later starts",
+              starts);
+}
