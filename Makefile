@@ -50,7 +50,7 @@ fuzz-wrong: library
 	@tests/fuzz/wrong
 
 # Shows that the outside tests find each of many wrong libraries.
-wrong:
+wrong: program
 	@tests/wrong/run
 
 # A C program links with -lpcn.
