@@ -2,6 +2,7 @@
 Assumes built programs: table.py [--write DOCUMENT] PROGRAM..."""
 
 import sys
+import textwrap
 
 from machine import machine_lines
 from measure import best_rows, can_count, count_rows
@@ -97,9 +98,10 @@ def verdict(rows):
     slower = [row for row in rows if round(row.ratio(), 2) > 1]
     missed = [row for row in rows
               if row.name in GOALS and round(row.ratio(), 2) > GOALS[row.name]]
-    return [f"Slower than plain C in this run, {len(slower)} of {len(rows)}"
-            f" rows: {listed(slower)}.", "",
-            f"Above the goal in this run: {listed(missed)}."]
+    return [*textwrap.wrap(f"Slower than plain C in this run, {len(slower)} of"
+                           f" {len(rows)} rows: {listed(slower)}.", 110), "",
+            *textwrap.wrap(f"Above the goal in this run: {listed(missed)}.",
+                           110)]
 
 
 def measured(programs):
