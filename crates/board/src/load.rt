@@ -1,24 +1,21 @@
 // The words of a next list after a cycle.
 // A caller has an accepted file and lists of n words.
-use netlist::layout::role_at;
-use netlist::record::Role;
+use netlist::layout::fields_at;
+use netlist::layout::register_at;
 ghost use mathlib.Core.Path.{_≡_};
 ghost use Rattle.netlist.specs.Layout.{designOf, roleAt};
 ghost use Rattle.rules.specs.Lent.{Lent, LentAt};
 ghost use Rattle.clock.specs.Values.{nextWord, nextOf};
 
-// The word of record i after a cycle: the value of a register's a, and 0 for another.
+// The word of record i after a cycle: the value of a register's a, and 0 for another. It is worked out without a branch, since registers
+// come in no order that a processor could foresee. A field that its kind has no use for is 0, so a names a record of any kind.
 fn next_word(file: &[u8], values: &[u64], i: usize) -> u64
     requires { ⌜ LentAt (now file) (now values) i ⌝ }
     ensures { λ r. ⌜ r ≡ nextWord (now (values .entry)) (roleAt (designOf (now (file .entry))) i) ⌝ }
 {
-    let role = role_at(file, i);
-    match role {
-        Role::Input => 0,
-        Role::Register { a, k: _ } => values[a],
-        Role::Output => 0,
-        Role::Gate => 0,
-    }
+    let fields = fields_at(file, i);
+    let a = fields.a;
+    values[a] * register_at(file, i)
 }
 
 // Fills a list with the words after a cycle that gave these values.

@@ -1,16 +1,16 @@
--- Laws of the table of kinds: numbers and kinds answer to each other, 3 alone is an output's number, which kinds have two operands
--- and which are gates, unused fields are 0, and k is a word. Assumes nothing.
+-- Laws of the table of kinds: numbers and kinds answer to each other, 3 alone is an output's number and 2 a register's, which kinds have
+-- two operands and which are gates, unused fields are 0, and k is a word. Assumes nothing.
 use mathlib.Core.Path.{_≡_, refl, sym, ap, _∙_}
 use mathlib.Core.Bool.{Bool, true, false, cond}
-use mathlib.Core.List.{List, [], _∷_}
-use Prim.Native.Nat.{ℕ, zero, suc, _+_, _^_, _≤_, _<_}
+use mathlib.Core.List.{List, [], _∷_, _++_}
+use Prim.Native.Nat.{ℕ, zero, suc, _+_, _^_, _≤_, _<_, compare·suc-suc}
 use native.Mathlib.Omega.{arith}
 use borrow.Author.Tests.{ne-eqb, ltb-true, ltb-false}
-use lib.Dec.{eqb, ltb, lit<}
+use lib.Dec.{eqb, ltb, isEq, lit<}
 use lib.ListN.{getD, drop, replicate, List·getD-eq-default, List·getD-map}
 use Rattle.endian.specs.Lists.{wordsOf, wordsFrom}
 use Rattle.endian.proofs.ListLaws.{word-at}
-use Rattle.netlist.specs.Kinds.{kinds, kindOf, codeOf, usesOf, widthRules, isOutput, operandsOf, two}
+use Rattle.netlist.specs.Kinds.{kinds, kindOf, codeOf, usesOf, widthRules, isOutput, isRegister, operandsOf, two}
 use Rattle.netlist.specs.Limits.{kindCount}
 use Rattle.netlist.specs.Rules.{Rule, equal, AllHold}
 use Rattle.netlist.specs.declared.record.Fields.{Fields}
@@ -36,16 +36,21 @@ within zero n x y h = absurd (omega arith)
 within (suc m) zero x y h = refl
 within (suc m) (suc n) x y h = within m n x y (omega arith)
 
--- "names an output": the kinds after the output's number are no outputs, and the three before it are none either
+-- a list where one value alone is true tells a number
+alone : (m rest n : ℕ) → getD (replicate m false ++ (true ∷ replicate rest false)) n false ≡ eqb n m
+alone zero rest zero = refl
+alone zero rest (suc n) = everywhere rest n false ∙ sym (ne-eqb (suc n) 0 (λ e. omega arith))
+alone (suc m) rest zero = sym (ne-eqb 0 (suc m) (λ e. omega arith))
+alone (suc m) rest (suc n) = alone m rest n ∙ sym (ap isEq (compare·suc-suc n m))
+
+-- "names an output": 3 alone is an output's number, and 2 a register's
 pub output-code : (code : ℕ) (f : Fields) → isOutput (usesOf (kindOf code f) .role) ≡ eqb code 3
 unfolding kindOf
-output-code zero f = refl
-output-code (suc zero) f = refl
-output-code (suc (suc zero)) f = refl
-output-code (suc (suc (suc zero))) f = refl
-output-code (suc (suc (suc (suc n)))) f =
-    sym (List·getD-map (λ (k : Kind). isOutput (usesOf k .role)) (drop 4 (kinds f)) n Input)
-    ∙ everywhere 11 n false ∙ sym (ne-eqb (suc (suc (suc (suc n)))) 3 (λ e. omega arith))
+output-code code f = sym (List·getD-map (λ (k : Kind). isOutput (usesOf k .role)) (kinds f) code Input) ∙ alone 3 11 code
+
+pub register-code : (code : ℕ) (f : Fields) → isRegister (usesOf (kindOf code f) .role) ≡ eqb code 2
+unfolding kindOf
+register-code code f = sym (List·getD-map (λ (k : Kind). isRegister (usesOf k .role)) (kinds f) code Input) ∙ alone 2 12 code
 
 -- an input, a register and an output alone have roles of their own
 gate-role : (code : ℕ) (f : Fields) → code < 15 → (code ≡ 0 → ⊥) → (code ≡ 2 → ⊥) → (code ≡ 3 → ⊥) → usesOf (kindOf code f) .role ≡ gate

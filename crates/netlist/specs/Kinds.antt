@@ -111,6 +111,13 @@ isOutput (register a k) = false
 isOutput output = true
 isOutput gate = false
 
+-- Which role is a register's.
+abbrev pub isRegister : Role → Bool
+isRegister input = false
+isRegister (register a k) = true
+isRegister output = false
+isRegister gate = false
+
 -- "it holds each pin's word at its input and each state at its register": the roles whose word on the board list counts.
 abbrev pub isHeld : Role → Bool
 isHeld input = true

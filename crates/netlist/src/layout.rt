@@ -6,10 +6,11 @@ use crate::record::Role;
 use crate::record::Uses;
 use endian::read_16;
 use endian::read_64;
+ghost use mathlib.Core.Bool.{cond};
 ghost use mathlib.Core.Path.{_≡_};
 ghost use Prim.Native.Nat.{_+_, _*_, _≤_, _<_, _^_};
 ghost use lib.ListN.{length};
-ghost use Rattle.netlist.specs.Kinds.{usesOf};
+ghost use Rattle.netlist.specs.Kinds.{usesOf, isRegister};
 ghost use Rattle.netlist.specs.Layout.{headerSize, recordSize, recordStart, keepStart, countOf, versionOf, codeAt, widthAt, fieldsAt, keepAt, recordAt, designOf, roleAt};
 
 // The sizes of the header and of a record, in bytes.
@@ -104,6 +105,16 @@ pub fn role_at(file: &[u8], i: usize) -> Role
     ensures { λ r. ⌜ r ≡ roleAt (designOf (now (file .entry))) i ⌝ }
 {
     Role::new(code_at(file, i), fields_at(file, i))
+}
+
+// 1 where record i is a register, and 0 where it is not. The compiler makes a branch of a comparison, and of this none: 256 less the bits in
+// which two bytes differ is 256 only where they differ in none.
+pub fn register_at(file: &[u8], i: usize) -> u64
+    requires { ⌜ recordStart i + recordSize ≤ length (now file) ⌝ }
+    ensures { λ r. ⌜ r ≡ cond (isRegister (roleAt (designOf (now (file .entry))) i)) 1 0 ⌝ }
+{
+    let at = record_start(i);
+    (256 - (file[at] as u64 ^ Record::REGISTER)) / 256
 }
 
 // What the kind of record i uses.

@@ -1,3 +1,3 @@
--- That the operands of an accepted file's records can be read, for the proofs of this crate.
+-- That the operands of an accepted file's records can be read, for the proofs of code that reads them.
 -- Assumes nothing.
-mod Reading
+pub mod Reading

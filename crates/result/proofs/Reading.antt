@@ -22,7 +22,7 @@ pub record Inside (n : ℕ) (f : Fields) : Type 0 where
 
 module _ (file : List ℕ) (a : Acceptance file (countOf file)) (i : ℕ) (h : i < countOf file) where
   -- the fields that the code has read are those that the kind uses
-  fields-read : {f : Fields} → f ≡ fieldsAt file i → f ≡ usedFields (usesOf (recordAt file i .kind))
+  pub fields-read : {f : Fields} → f ≡ fieldsAt file i → f ≡ usedFields (usesOf (recordAt file i .kind))
   fields-read e = e ∙ fields-used (fieldsAt file i) (usesOf (recordAt file i .kind)) (a .fields i h)
 
   -- and name records of the file
