@@ -6,8 +6,9 @@ use mathlib.Core.Logic.{_⊎_}
 use Prim.Native.Nat.{ℕ, _+_, _≤_}
 use lib.ListN.{length, take}
 use Rattle.netlist.specs.Limits.{maxWidth}
-use Rattle.netlist.specs.Kinds.{usesOf}
+use Rattle.netlist.specs.Kinds.{usesOf, widthRules}
 use Rattle.netlist.specs.Layout.{designOf, recordStart, recordSize}
+use Rattle.netlist.specs.Rules.{AllHold}
 use Rattle.netlist.specs.declared.record.Kind.{Kind}
 use Rattle.signal.specs.AskLists.{NoBit}
 use Rattle.signal.specs.declared.Ask.{Ask}
@@ -21,9 +22,11 @@ listed r = take (r .count) (r .first ∷ r .second ∷ r .third ∷ [])
 abbrev pub Serves : Asks → List Ask → Type 0
 Serves r xs = (listed r ≡ xs) ⊎ ((listed r ≡ []) × NoBit xs)
 
--- The file holds the first two operands of a kind, and they are words of at most 64 bits.
+-- The file holds the first two operands of a kind, they are words of at most 64 bits, and a record of some width keeps the kind's rule.
 pub record Readable (file : List ℕ) (kind : Kind) : Type 0 where
   pub first : recordStart (usesOf kind .a) + recordSize ≤ length file
   pub second : recordStart (usesOf kind .b) + recordSize ≤ length file
   pub narrow-first : designOf file .at (usesOf kind .a) .width ≤ maxWidth
   pub narrow-second : designOf file .at (usesOf kind .b) .width ≤ maxWidth
+  pub width : ℕ
+  pub widths : AllHold (widthRules kind width (designOf file .at (usesOf kind .a) .width) (designOf file .at (usesOf kind .b) .width) (designOf file .at (usesOf kind .c) .width))

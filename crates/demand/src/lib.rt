@@ -15,13 +15,14 @@ use signal::Ask;
 ghost use mathlib.Core.Path.{_≡_};
 ghost use mathlib.Core.List.{[], _∷_};
 ghost use Prim.Native.Nat.{_+_, _≤_, _<_};
+ghost use lib.Bits.{bitOr};
 ghost use lib.Dec.{ltb};
 ghost use lib.ListN.{length};
 ghost use Rattle.bits.specs.Words.{cut, down, lowMasks};
 ghost use Rattle.netlist.specs.Kinds.{usesOf};
 ghost use Rattle.netlist.specs.Layout.{designOf, countOf, recordStart, recordSize};
 ghost use Rattle.rules.specs.Sound.{Acceptance};
-ghost use Rattle.signal.specs.Asks.{ask, upToHighest, allIfAny, asksOf, asked};
+ghost use Rattle.signal.specs.Asks.{ask, upToHighest, allIfAny, upWithin, topIfCopied, asksOf, asked};
 ghost use Rattle.demand.specs.Held.{listed, Serves, Readable};
 
 // What a record asks: the first `count` of three.
@@ -126,6 +127,29 @@ fn of_concat(a: usize, b: usize, w: u64, d: u64) -> Asks
     Asks::two(a, shr(d, w), b, cut_to(d, w))
 }
 
+// d moved up by k places, within w.
+fn up_within(d: u64, k: u64, w: u64) -> u64
+    ensures { λ r. ⌜ r ≡ upWithin w k d ⌝ }
+{
+    cut_to(shl(d, k), w)
+}
+
+// The top bit of w, if d has a bit in a place that a shift by k copies it to.
+fn top_if_copied(d: u64, k: u64, w: u64) -> u64
+    requires { ⌜ (k < w) × (w ≤ 64) ⌝ }
+    ensures { λ r. ⌜ r ≡ topIfCopied w k d ⌝ }
+{
+    if shr(d, w - k) == 0 { 0 } else { 1 << (w - 1) }
+}
+
+// A right shift by k that copies the top bit of its operand of w bits.
+fn of_arithmetic_shift(a: usize, k: u64, w: u64, d: u64) -> Asks
+    requires { ⌜ (k < w) × (w ≤ 64) ⌝ }
+    ensures { λ r. ⌜ listed r ≡ ask a (bitOr (upWithin w k d) (topIfCopied w k d)) ∷ [] ⌝ }
+{
+    Asks::one(a, up_within(d, k, w) | top_if_copied(d, k, w))
+}
+
 // What a kind asks, with d for D.
 fn of_kind(file: &[u8], low: &[u64], kind: Kind, d: u64) -> Asks
     requires { ⌜ Readable (now file) kind × (now low ≡ lowMasks) ⌝ }
@@ -147,6 +171,10 @@ fn of_kind(file: &[u8], low: &[u64], kind: Kind, d: u64) -> Asks
         Kind::Mul { a, b } => of_carries(low, a, b, d),
         Kind::Equal { a, b } => of_comparison(a, width_at(file, a), b, width_at(file, b), d),
         Kind::Below { a, b } => of_comparison(a, width_at(file, a), b, width_at(file, b), d),
+        Kind::LeftShift { a, k } => Asks::one(a, shr(d, k)),
+        Kind::RightShift { a, k } => Asks::one(a, up_within(d, k, width_at(file, a))),
+        Kind::ArithmeticRightShift { a, k } => of_arithmetic_shift(a, k, width_at(file, a), d),
+        Kind::SignedBelow { a, b } => of_comparison(a, width_at(file, a), b, width_at(file, b), d),
     }
 }
 

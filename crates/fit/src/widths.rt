@@ -7,7 +7,7 @@ ghost use mathlib.Core.List.{[], _∷_};
 ghost use Prim.Native.Nat.{_+_, _<_};
 ghost use Rattle.netlist.specs.Kinds.{kindOf, widthRules};
 ghost use Rattle.netlist.specs.Limits.{kindCount};
-ghost use Rattle.netlist.specs.Rules.{equal, atMost, testAll};
+ghost use Rattle.netlist.specs.Rules.{equal, below, atMost, testAll};
 ghost use Rattle.rules.specs.Fit.{widthRange};
 
 fn one_equal(x: u64, y: u64) -> bool
@@ -33,6 +33,13 @@ fn sum_equal(x: u64, y: u64, z: u64) -> bool
     ensures { λ r. ⌜ r ≡ testAll (equal (x + y) z ∷ []) ⌝ }
 {
     x <= z && y == z - x
+}
+
+// x = y and u < v, as a shift by u places asks of the widths.
+fn equal_and_below(x: u64, y: u64, u: u64, v: u64) -> bool
+    ensures { λ r. ⌜ r ≡ testAll (equal x y ∷ below u v ∷ []) ⌝ }
+{
+    x == y && u < v
 }
 
 // x + y ≤ z, with no sum that could wrap.
@@ -71,6 +78,12 @@ pub fn widths_fit(code: u64, fields: Fields, w: u64, wa: u64, wb: u64, wc: u64) 
     }
     if code < Record::EQUAL {
         return both_equal(wa, w, wb, w);
+    }
+    if code < Record::LEFT_SHIFT {
+        return both_equal(wa, wb, w, 1);
+    }
+    if code < Record::SIGNED_BELOW {
+        return equal_and_below(wa, w, fields.k, w);
     }
     both_equal(wa, wb, w, 1)
 }

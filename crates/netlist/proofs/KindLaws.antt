@@ -1,26 +1,26 @@
 -- Laws of the table of kinds: numbers and kinds answer to each other, 3 alone is an output's number and 2 a register's, which kinds have
--- two operands and which are gates, unused fields are 0, and k is a word. Assumes nothing.
+-- two operands, which are shifts and which are gates, unused fields are 0, and k is a word. Assumes nothing.
 use mathlib.Core.Path.{_≡_, refl, sym, ap, _∙_}
 use mathlib.Core.Bool.{Bool, true, false, cond}
 use mathlib.Core.List.{List, [], _∷_, _++_}
-use Prim.Native.Nat.{ℕ, zero, suc, _+_, _^_, _≤_, _<_, compare·suc-suc}
+use Prim.Native.Nat.{ℕ, zero, suc, _+_, _-_, _^_, _≤_, _<_, compare·suc-suc}
 use native.Mathlib.Omega.{arith}
 use borrow.Author.Tests.{ne-eqb, ltb-true, ltb-false}
 use lib.Dec.{eqb, ltb, isEq, lit<}
 use lib.ListN.{getD, drop, replicate, List·getD-eq-default, List·getD-map}
 use Rattle.endian.specs.Lists.{wordsOf, wordsFrom}
 use Rattle.endian.proofs.ListLaws.{word-at}
-use Rattle.netlist.specs.Kinds.{kinds, kindOf, codeOf, usesOf, widthRules, isOutput, isRegister, operandsOf, two}
+use Rattle.netlist.specs.Kinds.{kinds, kindOf, codeOf, usesOf, widthRules, isOutput, isRegister, operandsOf, one, two}
 use Rattle.netlist.specs.Limits.{kindCount}
-use Rattle.netlist.specs.Rules.{Rule, equal, AllHold}
+use Rattle.netlist.specs.Rules.{Rule, equal, below, AllHold}
 use Rattle.netlist.specs.declared.record.Fields.{Fields}
 use Rattle.netlist.specs.declared.record.Kind.{Kind}
-use Rattle.netlist.specs.declared.record.Kind.the-variants.{Input, Constant, Register, Output, Extract, Concat, And, Or, Xor, Mux, Add, Sub, Mul, Equal, Below}
+use Rattle.netlist.specs.declared.record.Kind.the-variants.{Input, Constant, Register, Output, Extract, Concat, And, Or, Xor, Mux, Add, Sub, Mul, Equal, Below, LeftShift, RightShift, ArithmeticRightShift, SignedBelow}
 use Rattle.netlist.specs.declared.record.Role.the-variants.{Input as input, Register as register, Gate as gate}
 use Rattle.netlist.specs.declared.record.Uses.{Uses}
 
--- no kind has a number above 14
-pub kindOf-beyond : (code : ℕ) (f : Fields) → 15 ≤ code → kindOf code f ≡ Input
+-- no kind has a number above 18
+pub kindOf-beyond : (code : ℕ) (f : Fields) → kindCount ≤ code → kindOf code f ≡ Input
 unfolding kindOf
 kindOf-beyond code f h = List·getD-eq-default (kinds f) Input h
 
@@ -46,21 +46,21 @@ alone (suc m) rest (suc n) = alone m rest n ∙ sym (ap isEq (compare·suc-suc n
 -- "names an output": 3 alone is an output's number, and 2 a register's
 pub output-code : (code : ℕ) (f : Fields) → isOutput (usesOf (kindOf code f) .role) ≡ eqb code 3
 unfolding kindOf
-output-code code f = sym (List·getD-map (λ (k : Kind). isOutput (usesOf k .role)) (kinds f) code Input) ∙ alone 3 11 code
+output-code code f = sym (List·getD-map (λ (k : Kind). isOutput (usesOf k .role)) (kinds f) code Input) ∙ alone 3 15 code
 
 pub register-code : (code : ℕ) (f : Fields) → isRegister (usesOf (kindOf code f) .role) ≡ eqb code 2
 unfolding kindOf
-register-code code f = sym (List·getD-map (λ (k : Kind). isRegister (usesOf k .role)) (kinds f) code Input) ∙ alone 2 12 code
+register-code code f = sym (List·getD-map (λ (k : Kind). isRegister (usesOf k .role)) (kinds f) code Input) ∙ alone 2 16 code
 
 -- an input, a register and an output alone have roles of their own
-gate-role : (code : ℕ) (f : Fields) → code < 15 → (code ≡ 0 → ⊥) → (code ≡ 2 → ⊥) → (code ≡ 3 → ⊥) → usesOf (kindOf code f) .role ≡ gate
+gate-role : (code : ℕ) (f : Fields) → code < kindCount → (code ≡ 0 → ⊥) → (code ≡ 2 → ⊥) → (code ≡ 3 → ⊥) → usesOf (kindOf code f) .role ≡ gate
 unfolding kindOf
 gate-role zero f h p q r = absurd (p refl)
 gate-role (suc zero) f h p q r = refl
 gate-role (suc (suc zero)) f h p q r = absurd (q refl)
 gate-role (suc (suc (suc zero))) f h p q r = absurd (r refl)
 gate-role (suc (suc (suc (suc n)))) f h p q r =
-    sym (List·getD-map (λ (k : Kind). usesOf k .role) (drop 4 (kinds f)) n Input) ∙ within 11 n gate input (omega arith)
+    sym (List·getD-map (λ (k : Kind). usesOf k .role) (drop 4 (kinds f)) n Input) ∙ within 15 n gate input (omega arith)
 
 pub other-role : (code : ℕ) (f : Fields) → (code ≡ 0 → ⊥) → (code ≡ 2 → ⊥) → (code ≡ 3 → ⊥) → usesOf (kindOf code f) .role ≡ cond (ltb code kindCount) gate input
 other-role code f p q r = go (ltb code kindCount) refl
@@ -84,7 +84,22 @@ one-width-rule (suc (suc zero)) f l h w wa wb wc = refl
 one-width-rule (suc (suc (suc zero))) f l h w wa wb wc = refl
 one-width-rule (suc (suc (suc (suc n)))) f l h w wa wb wc = absurd (omega arith)
 
--- the kinds from 5 on, but for the mux, use two operands; their width rules, by their numbers
+-- a shift uses one operand and k, which has to be below its width
+pub record Shift (code : ℕ) (f : Fields) : Type 0 where
+  pub uses : usesOf (kindOf code f) ≡ one (f .a) (f .k) 0 gate
+  pub widths : (w wa wb wc : ℕ) → widthRules (kindOf code f) w wa wb wc ≡ equal wa w ∷ below (f .k) w ∷ []
+
+pub shifts : (code : ℕ) (f : Fields) → 15 ≤ code → code < 18 → Shift code f
+unfolding kindOf
+shifts code f l h = go (code - 15) (omega arith) (omega arith)
+  where
+    go : (n : ℕ) → n < 3 → code ≡ 15 + n → Shift code f
+    go zero g e = rw e (record { uses = refl; widths = λ w wa wb wc. refl })
+    go (suc zero) g e = rw e (record { uses = refl; widths = λ w wa wb wc. refl })
+    go (suc (suc zero)) g e = rw e (record { uses = refl; widths = λ w wa wb wc. refl })
+    go (suc (suc (suc n))) g e = absurd (omega arith)
+
+-- the kinds from 5 to 14, but for the mux, use two operands; their width rules, by their numbers
 abbrev pub twoRules : ℕ → ℕ → ℕ → ℕ → List Rule
 twoRules code w wa wb =
     cond (eqb code 5) (equal (wa + wb) w ∷ [])
@@ -144,6 +159,10 @@ kind-back (Sub a b) = refl
 kind-back (Mul a b) = refl
 kind-back (Equal a b) = refl
 kind-back (Below a b) = refl
+kind-back (LeftShift a k) = refl
+kind-back (RightShift a k) = refl
+kind-back (ArithmeticRightShift a k) = refl
+kind-back (SignedBelow a b) = refl
 
 pub code-low : (k : Kind) → codeOf k < kindCount
 code-low Input = lit< tt
@@ -161,8 +180,12 @@ code-low (Sub a b) = lit< tt
 code-low (Mul a b) = lit< tt
 code-low (Equal a b) = lit< tt
 code-low (Below a b) = lit< tt
+code-low (LeftShift a k) = lit< tt
+code-low (RightShift a k) = lit< tt
+code-low (ArithmeticRightShift a k) = lit< tt
+code-low (SignedBelow a b) = lit< tt
 
--- and the number of a kind that a number below 15 gives is that number
+-- and the number of a kind that a number below 19 gives is that number
 pub code-back : (code : ℕ) (f : Fields) → code < kindCount → codeOf (kindOf code f) ≡ code
 unfolding wordsOf wordsFrom kindOf
 code-back code f h = sym (List·getD-map codeOf (kinds f) code Input) ∙ word-at (λ n. n) kindCount code h
@@ -190,6 +213,10 @@ padded (Sub a b) = record { first = refl; second = refl; third = refl }
 padded (Mul a b) = record { first = refl; second = refl; third = refl }
 padded (Equal a b) = record { first = refl; second = refl; third = refl }
 padded (Below a b) = record { first = refl; second = refl; third = refl }
+padded (LeftShift a k) = record { first = refl; second = refl; third = refl }
+padded (RightShift a k) = record { first = refl; second = refl; third = refl }
+padded (ArithmeticRightShift a k) = record { first = refl; second = refl; third = refl }
+padded (SignedBelow a b) = record { first = refl; second = refl; third = refl }
 
 -- only a register has a register's role
 pub is-register : (kind : Kind) (a k : ℕ) → usesOf kind .role ≡ register a k → kind ≡ Register a k
@@ -208,8 +235,12 @@ is-register (Sub b c) a k e = absurd (let z : _≡_ {A = ℕ} 0 1 = cc in omega 
 is-register (Mul b c) a k e = absurd (let z : _≡_ {A = ℕ} 0 1 = cc in omega arith)
 is-register (Equal b c) a k e = absurd (let z : _≡_ {A = ℕ} 0 1 = cc in omega arith)
 is-register (Below b c) a k e = absurd (let z : _≡_ {A = ℕ} 0 1 = cc in omega arith)
+is-register (LeftShift b l) a k e = absurd (let z : _≡_ {A = ℕ} 0 1 = cc in omega arith)
+is-register (RightShift b l) a k e = absurd (let z : _≡_ {A = ℕ} 0 1 = cc in omega arith)
+is-register (ArithmeticRightShift b l) a k e = absurd (let z : _≡_ {A = ℕ} 0 1 = cc in omega arith)
+is-register (SignedBelow b c) a k e = absurd (let z : _≡_ {A = ℕ} 0 1 = cc in omega arith)
 
--- k is a word of 64 bits: it fits its record's width, or it is a place within its operand
+-- k is a word of 64 bits: it fits its record's width, or it is a place within its operand or below that width
 pub k-word : (kind : Kind) (w wa wb wc : ℕ) → AllHold (widthRules kind w wa wb wc) → usesOf kind .word < 2 ^ 64 → wa ≤ 64 → usesOf kind .k < 2 ^ 64
 k-word Input w wa wb wc h g l = lit< tt
 k-word (Constant k) w wa wb wc h g l = g
@@ -226,3 +257,7 @@ k-word (Sub a b) w wa wb wc h g l = lit< tt
 k-word (Mul a b) w wa wb wc h g l = lit< tt
 k-word (Equal a b) w wa wb wc h g l = lit< tt
 k-word (Below a b) w wa wb wc h g l = lit< tt
+k-word (LeftShift a k) w wa wb wc h g l = omega arith
+k-word (RightShift a k) w wa wb wc h g l = omega arith
+k-word (ArithmeticRightShift a k) w wa wb wc h g l = omega arith
+k-word (SignedBelow a b) w wa wb wc h g l = lit< tt

@@ -4,11 +4,11 @@ use mathlib.Core.Bool.{Bool, true, false}
 use mathlib.Core.List.{List, [], _∷_}
 use Prim.Native.Nat.{ℕ, _+_}
 use lib.ListN.{getD, take}
-use Rattle.netlist.specs.Rules.{Rule, equal, atMost}
+use Rattle.netlist.specs.Rules.{Rule, equal, below, atMost}
 use Rattle.netlist.specs.declared.record.Fields.{Fields}
 use Rattle.netlist.specs.declared.record.Uses.{Uses}
 use Rattle.netlist.specs.declared.record.Kind.{Kind}
-use Rattle.netlist.specs.declared.record.Kind.the-variants.{Input, Constant, Register, Output, Extract, Concat, And, Or, Xor, Mux, Add, Sub, Mul, Equal, Below}
+use Rattle.netlist.specs.declared.record.Kind.the-variants.{Input, Constant, Register, Output, Extract, Concat, And, Or, Xor, Mux, Add, Sub, Mul, Equal, Below, LeftShift, RightShift, ArithmeticRightShift, SignedBelow}
 use Rattle.netlist.specs.declared.record.Role.{Role}
 use Rattle.netlist.specs.declared.record.Role.the-variants.{Input as input, Register as register, Output as output, Gate as gate}
 
@@ -30,9 +30,13 @@ kinds f =
     ∷ Mul (f .a) (f .b)
     ∷ Equal (f .a) (f .b)
     ∷ Below (f .a) (f .b)
+    ∷ LeftShift (f .a) (f .k)
+    ∷ RightShift (f .a) (f .k)
+    ∷ ArithmeticRightShift (f .a) (f .k)
+    ∷ SignedBelow (f .a) (f .b)
     ∷ []
 
--- The kind with a number. A number above 14 reads as an input; a file with one is refused.
+-- The kind with a number. A number above 18 reads as an input; a file with one is refused.
 unfoldable pub kindOf : ℕ → Fields → Kind
 kindOf code f = getD (kinds f) code Input
 
@@ -53,6 +57,10 @@ codeOf (Sub a b) = 11
 codeOf (Mul a b) = 12
 codeOf (Equal a b) = 13
 codeOf (Below a b) = 14
+codeOf (LeftShift a k) = 15
+codeOf (RightShift a k) = 16
+codeOf (ArithmeticRightShift a k) = 17
+codeOf (SignedBelow a b) = 18
 
 -- What a kind uses: no operand, one, two or three, then k; 0 stands for a field that is not used. `word` is the k of a constant or
 -- register, which has to fit the width, and 0 elsewhere.
@@ -85,6 +93,10 @@ usesOf (Sub a b) = two a b
 usesOf (Mul a b) = two a b
 usesOf (Equal a b) = two a b
 usesOf (Below a b) = two a b
+usesOf (LeftShift a k) = one a k 0 gate
+usesOf (RightShift a k) = one a k 0 gate
+usesOf (ArithmeticRightShift a k) = one a k 0 gate
+usesOf (SignedBelow a b) = two a b
 
 -- The table's column "width rule", with wa, wb and wc for W(a), W(b) and W(c).
 abbrev pub widthRules : Kind → ℕ → ℕ → ℕ → ℕ → List Rule
@@ -103,6 +115,12 @@ widthRules (Sub a b) w wa wb wc = equal wa w ∷ equal wb w ∷ []
 widthRules (Mul a b) w wa wb wc = equal wa w ∷ equal wb w ∷ []
 widthRules (Equal a b) w wa wb wc = equal wa wb ∷ equal w 1 ∷ []
 widthRules (Below a b) w wa wb wc = equal wa wb ∷ equal w 1 ∷ []
+-- "each of a by k places with W(a) = w and k < w"
+widthRules (LeftShift a k) w wa wb wc = equal wa w ∷ below k w ∷ []
+widthRules (RightShift a k) w wa wb wc = equal wa w ∷ below k w ∷ []
+widthRules (ArithmeticRightShift a k) w wa wb wc = equal wa w ∷ below k w ∷ []
+-- "signed below, two's complement, with the widths of 14"
+widthRules (SignedBelow a b) w wa wb wc = equal wa wb ∷ equal w 1 ∷ []
 
 -- Which role is an output.
 abbrev pub isOutput : Role → Bool

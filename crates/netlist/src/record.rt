@@ -33,6 +33,10 @@ pub enum Kind {
     Mul { a: usize, b: usize },
     Equal { a: usize, b: usize },
     Below { a: usize, b: usize },
+    LeftShift { a: usize, k: u64 },
+    RightShift { a: usize, k: u64 },
+    ArithmeticRightShift { a: usize, k: u64 },
+    SignedBelow { a: usize, b: usize },
 }
 
 // The role of a record in a design.
@@ -67,10 +71,10 @@ impl Record {
 
     pub const MAX_COUNT: usize = 2048;
 
-    pub const KINDS: u64 = 15;
+    pub const KINDS: u64 = 19;
 
-    // Numbers of kinds that the code tests. The kinds are ordered by their operands: those below the register have none, those below the
-    // concat have one, and of the others only the mux has three.
+    // Numbers of kinds that the code tests. Those below the register have no operand. Those below the concat have one, and so have the
+    // shifts, which end before the signed below. Of the others only the mux has three.
     pub const REGISTER: u64 = 2;
 
     pub const OUTPUT: u64 = 3;
@@ -82,6 +86,10 @@ impl Record {
     pub const MUX: u64 = 9;
 
     pub const EQUAL: u64 = 13;
+
+    pub const LEFT_SHIFT: u64 = 15;
+
+    pub const SIGNED_BELOW: u64 = 18;
 
     // The record that a kind's number, a width, the four fields and a keep word make.
     pub fn new(code: u64, width: u64, fields: Fields, keep: u64) -> Record
@@ -116,6 +124,10 @@ impl Kind {
             12 => Kind::Mul { a, b },
             13 => Kind::Equal { a, b },
             14 => Kind::Below { a, b },
+            15 => Kind::LeftShift { a, k },
+            16 => Kind::RightShift { a, k },
+            17 => Kind::ArithmeticRightShift { a, k },
+            18 => Kind::SignedBelow { a, b },
             _ => Kind::Input,
         }
     }
@@ -161,6 +173,12 @@ impl Uses {
         }
         if code == Record::MUX {
             return Uses::three(fields.a, fields.b, fields.c);
+        }
+        if code < Record::LEFT_SHIFT {
+            return Uses::two(fields.a, fields.b);
+        }
+        if code < Record::SIGNED_BELOW {
+            return Uses::one(fields.a, fields.k, 0, Role::Gate);
         }
         if code < Record::KINDS {
             return Uses::two(fields.a, fields.b);

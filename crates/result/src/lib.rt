@@ -6,6 +6,7 @@ use bits::arith::shl;
 use bits::arith::shr;
 use bits::arith::sub;
 use bits::mask::cut_to;
+use bits::mask::low_mask;
 use netlist::layout::fields_at;
 use netlist::layout::record_at;
 use netlist::layout::width_at;
@@ -18,7 +19,7 @@ ghost use Rattle.endian.specs.Lists.{wordAt};
 ghost use Rattle.bits.specs.Words.{cut, productAt};
 ghost use Rattle.netlist.specs.Layout.{designOf};
 ghost use Rattle.rules.specs.Lent.{LentAt};
-ghost use Rattle.signal.specs.Results.{resultOf, resultAt};
+ghost use Rattle.signal.specs.Results.{emptied, arithmeticDown, signedAt, resultOf, resultAt};
 
 // x above the n bits of y, in w bits.
 fn concat(x: u64, y: u64, n: u64, w: u64) -> u64
@@ -54,9 +55,40 @@ fn below(x: u64, y: u64) -> u64
     if x < y { 1 } else { 0 }
 }
 
+// The places that a shift of w bits down by k leaves empty.
+fn emptied(k: u64, w: u64) -> u64
+    requires { ⌜ w ≤ 64 ⌝ }
+    ensures { λ r. ⌜ r ≡ emptied w k ⌝ }
+{
+    let all = low_mask(w);
+    all - shr(all, k)
+}
+
+// x moved down by k places, with its top bit of w in each empty place.
+fn arithmetic_right_shift(x: u64, k: u64, w: u64) -> u64
+    requires { ⌜ (1 ≤ w) × (w ≤ 64) ⌝ }
+    ensures { λ r. ⌜ r ≡ arithmeticDown w k x ⌝ }
+{
+    let moved = shr(x, k);
+    if shr(x, w - 1) % 2 == 1 {
+        moved | emptied(k, w)
+    } else {
+        moved
+    }
+}
+
+// Whether x is below y, both in two's complement of w bits. With its top bit turned over, a negative word stands below the others.
+fn signed_below(x: u64, y: u64, w: u64) -> u64
+    requires { ⌜ (1 ≤ w) × (w ≤ 64) ⌝ }
+    ensures { λ r. ⌜ r ≡ cond (ltb (signedAt w x) (signedAt w y)) 1 0 ⌝ }
+{
+    let top = 1 << (w - 1);
+    below(x ^ top, y ^ top)
+}
+
 // The result of a kind of w bits: wb is the width of b, `own` the record's own word, and x, y and z are the values of a, b and c.
 fn result_of(kind: Kind, w: u64, wb: u64, own: u64, x: u64, y: u64, z: u64) -> u64
-    requires { ⌜ w ≤ 64 ⌝ }
+    requires { ⌜ (1 ≤ w) × (w ≤ 64) × (1 ≤ wb) × (wb ≤ 64) ⌝ }
     ensures { λ r. ⌜ r ≡ resultOf kind w wb own x y z ⌝ }
 {
     match kind {
@@ -75,6 +107,10 @@ fn result_of(kind: Kind, w: u64, wb: u64, own: u64, x: u64, y: u64, z: u64) -> u
         Kind::Mul { a: _, b: _ } => product(x, y, w),
         Kind::Equal { a: _, b: _ } => equal(x, y),
         Kind::Below { a: _, b: _ } => below(x, y),
+        Kind::LeftShift { a: _, k } => concat(x, 0, k, w),
+        Kind::RightShift { a: _, k } => shr(x, k),
+        Kind::ArithmeticRightShift { a: _, k } => arithmetic_right_shift(x, k, w),
+        Kind::SignedBelow { a: _, b: _ } => signed_below(x, y, wb),
     }
 }
 

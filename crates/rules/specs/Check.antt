@@ -31,7 +31,7 @@ headerRules file =
     ∷ (BadLength, equal (length file) (headerSize + recordSize * countOf file) ∷ [])
     ∷ []
 
--- "Numbers 6 to 10 are tried in turn within a record". 6: "The kind is above 14." 7 to 10 are in `Fit`.
+-- "Numbers 6 to 10 are tried in turn within a record". 6: "The kind is above 18." 7 to 10 are in `Fit`.
 unfoldable pub recordRules : List ℕ → ℕ → List (Refusal × List Rule)
 recordRules file i =
     let d = designOf file in

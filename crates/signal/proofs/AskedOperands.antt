@@ -8,7 +8,7 @@ use Rattle.netlist.specs.Kinds.{usesOf, operandsOf, isHeld}
 use Rattle.netlist.specs.Layout.{Design, roleAt}
 use Rattle.netlist.specs.Rules.{AllHold}
 use Rattle.netlist.specs.declared.record.Kind.{Kind}
-use Rattle.netlist.specs.declared.record.Kind.the-variants.{Input, Constant, Register, Output, Extract, Concat, And, Or, Xor, Mux, Add, Sub, Mul, Equal, Below}
+use Rattle.netlist.specs.declared.record.Kind.the-variants.{Input, Constant, Register, Output, Extract, Concat, And, Or, Xor, Mux, Add, Sub, Mul, Equal, Below, LeftShift, RightShift, ArithmeticRightShift, SignedBelow}
 use Rattle.netlist.specs.declared.record.Record.{Record}
 use Rattle.netlist.specs.declared.record.Role.the-variants.{Register as register}
 use Rattle.netlist.proofs.KindLaws.{is-register}
@@ -37,6 +37,10 @@ module _ (d : Design) (limit : ℕ) (at : ℕ → Record) (D : ℕ) where
   asks-named (Mul a b) r = (r .0, (r .1 .1 .0, tt))
   asks-named (Equal a b) r = (r .0, (r .1 .1 .0, tt))
   asks-named (Below a b) r = (r .0, (r .1 .1 .0, tt))
+  asks-named (LeftShift a k) r = (r .0, tt)
+  asks-named (RightShift a k) r = (r .0, tt)
+  asks-named (ArithmeticRightShift a k) r = (r .0, tt)
+  asks-named (SignedBelow a b) r = (r .0, (r .1 .1 .0, tt))
 
 pub asked-below : (d : Design) → Sound d → (i : ℕ) → i < d .count → isHeld (roleAt d i) ≡ false → (m : ℕ) → Named i (asked (d .at) i m)
 unfolding asked

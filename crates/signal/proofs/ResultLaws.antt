@@ -6,6 +6,7 @@ use mathlib.Core.Logic.{_⊎_, inl, inr}
 use mathlib.Core.List.{List, [], _∷_}
 use Prim.Native.Nat.{ℕ, zero, suc, _^_, _≤_, _<_}
 use native.Mathlib.Omega.{arith}
+use lib.Bits.{bitOr}
 use lib.Dec.{eqb, ltb, eqb·suc-zero}
 use Rattle.bits.specs.Masks.{Agree}
 use Rattle.bits.specs.Words.{lowMask}
@@ -17,16 +18,17 @@ use Rattle.netlist.specs.Kinds.{usesOf, widthRules, operandsOf, isHeld}
 use Rattle.netlist.specs.Layout.{Design, roleAt}
 use Rattle.netlist.specs.Rules.{AllHold}
 use Rattle.netlist.specs.declared.record.Kind.{Kind}
-use Rattle.netlist.specs.declared.record.Kind.the-variants.{Input, Constant, Register, Output, Extract, Concat, And, Or, Xor, Mux, Add, Sub, Mul, Equal, Below}
+use Rattle.netlist.specs.declared.record.Kind.the-variants.{Input, Constant, Register, Output, Extract, Concat, And, Or, Xor, Mux, Add, Sub, Mul, Equal, Below, LeftShift, RightShift, ArithmeticRightShift, SignedBelow}
 use Rattle.netlist.specs.declared.record.Record.{Record}
 use Rattle.netlist.specs.declared.record.Role.{Role}
 use Rattle.netlist.specs.declared.record.Role.the-variants.{Input as input, Register as register, Output as output, Gate as gate}
 use Rattle.rules.specs.Fit.{operandLimit, namesRules, operandRules, widthRulesAt}
 use Rattle.rules.specs.Sound.{Sound}
 use Rattle.rules.proofs.SoundLaws.{operands-below}
-use Rattle.signal.specs.Results.{resultOf, resultAt}
-use Rattle.signal.specs.Asks.{ask, allIfAny, asksOf, demandOf, asked}
+use Rattle.signal.specs.Results.{arithmeticDown, signedAt, resultOf, resultAt}
+use Rattle.signal.specs.Asks.{ask, allIfAny, upWithin, topIfCopied, asksOf, demandOf, asked}
 use Rattle.signal.specs.declared.Ask.{Ask}
+use Rattle.signal.proofs.ShiftLaws.{agree-left-shift, agree-right-shift, agree-arithmetic-shift}
 
 -- ---- what two runs have in common at an operand
 
@@ -70,6 +72,13 @@ module _ (at : ℕ → Record) (v v′ : ℕ → ℕ) {w D : ℕ} (low : D < 2 ^
   selected : (a : ℕ) → at a .width ≡ 1 → Met at v v′ (ask a 1) → v a ≡ v′ a
   selected a e m = agree-equal 1 (subst (λ (u : ℕ). v a < 2 ^ u) e (m .first)) (subst (λ (u : ℕ). v′ a < 2 ^ u) e (m .second)) (m .agree)
 
+  -- the shift is of the record's width, and asks by that of its operand
+  shifted : (a k : ℕ) → at a .width ≡ w → k < w → Met at v v′ (ask a (bitOr (upWithin (at a .width) k D) (topIfCopied (at a .width) k D)))
+      → Agree D (arithmeticDown w k (v a)) (arithmeticDown w k (v′ a))
+  shifted a k e g m =
+      subst (λ (u : ℕ). D < 2 ^ u → k < u → u ≤ maxWidth → Agree D (arithmeticDown u k (v a)) (arithmeticDown u k (v′ a))) e
+      (λ l h n. agree-arithmetic-shift (at a .width) k l h n (m .first) (m .second) (m .agree)) low g narrow
+
   pub results-agree : (kind : Kind) (own own′ : ℕ) → at (usesOf kind .a) .width ≤ maxWidth
       → AllHold (widthRules kind w (at (usesOf kind .a) .width) (at (usesOf kind .b) .width) (at (usesOf kind .c) .width))
       → (isHeld (usesOf kind .role) ≡ true → Agree D own own′) → (isHeld (usesOf kind .role) ≡ false → AllMet at v v′ (asksOf at kind D))
@@ -94,6 +103,12 @@ module _ (at : ℕ → Record) (v v′ : ℕ → ℕ) {w D : ℕ} (low : D < 2 ^
   results-agree (Mul a b) own own′ n r held met = agree-product w low narrow (met refl .0 .agree) (met refl .1 .0 .agree)
   results-agree (Equal a b) own own′ n r held met = compared eqb (met refl)
   results-agree (Below a b) own own′ n r held met = compared ltb (met refl)
+  results-agree (LeftShift a k) own own′ n r held met = agree-left-shift w k low (met refl .0 .agree)
+  results-agree (RightShift a k) own own′ n r held met =
+      let m = met refl .0 in
+      agree-right-shift (at a .width) k n (m .first) (m .second) (m .agree)
+  results-agree (ArithmeticRightShift a k) own own′ n r held met = shifted a k (r .0) (r .1 .0) (met refl .0)
+  results-agree (SignedBelow a b) own own′ n r held met = compared (λ (x y : ℕ). ltb (signedAt (at b .width) x) (signedAt (at b .width) y)) (met refl)
 
 -- the law for the records of a sound design
 module _ (d : Design) (s : Sound d) (i : ℕ) (h : i < d .count) (v v′ : ℕ → ℕ) where
@@ -131,6 +146,10 @@ module _ (d : Design) (limit : ℕ) (v v′ : ℕ → ℕ) (same : (j : ℕ) →
   results-same (Mul a b) w wb own own′ held named = rw (same a (named refl .0), same b (named refl .1 .1 .0))
   results-same (Equal a b) w wb own own′ held named = rw (same a (named refl .0), same b (named refl .1 .1 .0))
   results-same (Below a b) w wb own own′ held named = rw (same a (named refl .0), same b (named refl .1 .1 .0))
+  results-same (LeftShift a k) w wb own own′ held named = rw (same a (named refl .0))
+  results-same (RightShift a k) w wb own own′ held named = rw (same a (named refl .0))
+  results-same (ArithmeticRightShift a k) w wb own own′ held named = rw (same a (named refl .0))
+  results-same (SignedBelow a b) w wb own own′ held named = rw (same a (named refl .0), same b (named refl .1 .1 .0))
 
 -- a record whose own word does not count names records below it
 limit-own : (role : Role) (n i : ℕ) → isHeld role ≡ false → operandLimit role n i ≡ i

@@ -3,21 +3,21 @@
 use mathlib.Core.Path.{_≡_, subst}
 use mathlib.Core.Bool.{Bool, true, false, cond}
 use Prim.Native.Nat.{ℕ, _+_, _*_, _^_, _≤_, _<_}
-use native.Mathlib.Nat.{lt-of-lt-of-le, mod-lt, mod-eq-of-lt, mul-le-mul-right, add-mul}
+use native.Mathlib.Nat.{lt-of-le-of-lt, lt-of-lt-of-le, mod-lt, mod-eq-of-lt, mul-le-mul-right, add-mul}
 use native.Mathlib.Omega.{arith}
 use lib.Bits.{and-lt, or-lt, xor-lt}
 use lib.Dec.{eqb, ltb, lit<}
-use lib.Pow.{pow-pos, pow-mono, pow-add}
-use Rattle.bits.specs.Words.{cut}
+use lib.Pow.{pow-pos, pow-mono, pow-add, shr-le, ones-sub-lt}
+use Rattle.bits.specs.Words.{cut, down}
 use Rattle.netlist.specs.Kinds.{usesOf, widthRules}
 use Rattle.netlist.specs.Layout.{Design}
 use Rattle.netlist.specs.Rules.{AllHold}
 use Rattle.netlist.specs.declared.record.Kind.{Kind}
-use Rattle.netlist.specs.declared.record.Kind.the-variants.{Input, Constant, Register, Output, Extract, Concat, And, Or, Xor, Mux, Add, Sub, Mul, Equal, Below}
+use Rattle.netlist.specs.declared.record.Kind.the-variants.{Input, Constant, Register, Output, Extract, Concat, And, Or, Xor, Mux, Add, Sub, Mul, Equal, Below, LeftShift, RightShift, ArithmeticRightShift, SignedBelow}
 use Rattle.rules.specs.Fit.{widthRulesAt}
 use Rattle.rules.specs.Sound.{Sound}
 use Rattle.rules.proofs.SoundLaws.{operands-below}
-use Rattle.signal.specs.Results.{resultOf, resultAt}
+use Rattle.signal.specs.Results.{topBit, signedAt, resultOf, resultAt}
 
 -- "a above b": nothing of a is lost
 pub concat-exact : (wa wb : ℕ) {x y : ℕ} → x < 2 ^ wa → y < 2 ^ wb → cut (wa + wb) (x * 2 ^ wb + y) ≡ x * 2 ^ wb + y
@@ -33,6 +33,9 @@ module _ (w wa wb wc own x y z : ℕ) (positive : 1 ≤ w) (ho : own < 2 ^ w) (h
 
   one-or-none : (b : Bool) → cond b 1 0 < 2 ^ w
   one-or-none b = lt-of-lt-of-le (choice-narrow b (let l : 1 < 2 ^ 1 = lit< tt in l) (lit< tt)) (pow-mono positive)
+
+  moved : (k : ℕ) → x < 2 ^ w → down k x < 2 ^ w
+  moved k h = lt-of-le-of-lt (shr-le x k) h
 
   results-narrow : (kind : Kind) → usesOf kind .word < 2 ^ w → AllHold (widthRules kind w wa wb wc) → resultOf kind w wb own x y z < 2 ^ w
   results-narrow Input k r = ho
@@ -50,6 +53,11 @@ module _ (w wa wb wc own x y z : ℕ) (positive : 1 ≤ w) (ho : own < 2 ^ w) (h
   results-narrow (Mul a b) g r = mod-lt _ (pow-pos w)
   results-narrow (Equal a b) g r = one-or-none (eqb x y)
   results-narrow (Below a b) g r = one-or-none (ltb x y)
+  results-narrow (LeftShift a k) g r = mod-lt _ (pow-pos w)
+  results-narrow (RightShift a k) g r = moved k (same x wa (r .0) hx)
+  results-narrow (ArithmeticRightShift a k) g r =
+      or-lt w _ _ (moved k (same x wa (r .0) hx)) (choice-narrow (eqb (topBit w x) 1) (ones-sub-lt w _) (pow-pos w))
+  results-narrow (SignedBelow a b) g r = one-or-none (ltb (signedAt wb x) (signedAt wb y))
 
 pub result-narrow : (d : Design) (s : Sound d) (i : ℕ) (h : i < d .count) (word : ℕ → ℕ)
     → ((j : ℕ) → j < d .count → word j < 2 ^ d .at j .width) → resultAt (d .at) word i < 2 ^ d .at i .width

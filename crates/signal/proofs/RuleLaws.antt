@@ -1,38 +1,41 @@
 -- The laws of the care rules, kind by kind: what is asked grows with D, stays within the operands' widths, and is mostly no bit for D 0.
 -- Assumes nothing. The crates above use these laws and look at no kind.
-use mathlib.Core.Path.{_≡_, refl, sym, ap, subst}
-use Prim.Native.Nat.{ℕ, zero, suc, _%_, _^_, _≤_, _<_}
-use native.Mathlib.Nat.{lt-of-lt-of-le, mod-lt, zero-mul, zero-div, zero-mod}
+use mathlib.Core.Path.{_≡_, refl, sym, ap, ap₂, _∙_, subst}
+use Prim.Native.Nat.{ℕ, zero, suc, _-_, _%_, _^_, _≤_, _<_}
+use native.Mathlib.Nat.{lt-of-le-of-lt, lt-of-lt-of-le, mod-lt, zero-mul, zero-div, zero-mod}
 use native.Mathlib.Omega.{arith}
-use lib.Bits.{bitAnd}
+use lib.Bits.{bitAnd, bitOr}
 use lib.Dec.{eqb·suc-zero, lit<}
-use lib.Pow.{pow-pos, pow-mono}
+use lib.Pow.{pow-pos, pow-mono, pow-lt, shr-le}
 use Rattle.bits.specs.Masks.{Within}
-use Rattle.bits.specs.Words.{lowMask}
-use Rattle.bits.proofs.Order.{within-refl, within-trans, within-zero, within-le, within-low, within-lt, low-mono, meet-right, meet-mono}
+use Rattle.bits.specs.Words.{lowMask, down}
+use Rattle.bits.proofs.Order.{within-refl, within-trans, within-zero, within-le, within-low, within-lt, low-mono, join-left, join-right, join-least, meet-right, meet-mono}
 use Rattle.bits.proofs.Shifts.{cut-mono, up-mono, up-lt, down-mono, down-lt, length-zero, length-le, length-mono}
 use Rattle.netlist.specs.Limits.{maxWidth}
 use Rattle.netlist.specs.Kinds.{usesOf, widthRules}
 use Rattle.netlist.specs.Layout.{Design}
 use Rattle.netlist.specs.Rules.{AllHold}
 use Rattle.netlist.specs.declared.record.Kind.{Kind}
-use Rattle.netlist.specs.declared.record.Kind.the-variants.{Input, Constant, Register, Output, Extract, Concat, And, Or, Xor, Mux, Add, Sub, Mul, Equal, Below}
+use Rattle.netlist.specs.declared.record.Kind.the-variants.{Input, Constant, Register, Output, Extract, Concat, And, Or, Xor, Mux, Add, Sub, Mul, Equal, Below, LeftShift, RightShift, ArithmeticRightShift, SignedBelow}
 use Rattle.netlist.specs.declared.record.Record.{Record}
 use Rattle.rules.specs.Fit.{widthRulesAt}
 use Rattle.rules.specs.Sound.{Sound}
 use Rattle.rules.proofs.SoundLaws.{OperandsBelow, operands-below, word-64}
-use Rattle.signal.specs.Asks.{upToHighest, allIfAny, asksOf, demandOf, asked, Granted, Fit}
+use Rattle.signal.specs.Asks.{upToHighest, ifAny, allIfAny, upWithin, asksOf, demandOf, asked, Granted, Fit}
 use Rattle.signal.specs.AskLists.{NoBit}
 
--- all bits if D is not 0: more of D asks for no less
-any-within : (w D : ℕ) → Within (allIfAny w D) (lowMask w)
-any-within w zero = within-zero _
-any-within w (suc D) = rw (eqb·suc-zero D) (low-mono (omega arith))
+-- the bits of m if D is not 0: no other bits, and more of D asks for no less
+any-within : (m D : ℕ) → Within (ifAny m D) m
+any-within m zero = within-zero _
+any-within m (suc D) = rw (eqb·suc-zero D) (within-refl m)
 
-any-mono : (w D E : ℕ) → Within D E → Within (allIfAny w D) (allIfAny w E)
-any-mono w zero E h = within-zero _
-any-mono w (suc D) zero h = absurd (let l = within-le h in omega arith)
-any-mono w (suc D) (suc E) h = rw (eqb·suc-zero D, eqb·suc-zero E) (within-refl _)
+any-mono : (m D E : ℕ) → Within D E → Within (ifAny m D) (ifAny m E)
+any-mono m zero E h = within-zero _
+any-mono m (suc D) zero h = absurd (let l = within-le h in omega arith)
+any-mono m (suc D) (suc E) h = rw (eqb·suc-zero D, eqb·suc-zero E) (within-refl _)
+
+join-mono : {a b c e : ℕ} → Within a c → Within b e → Within (bitOr a b) (bitOr c e)
+join-mono {c = c} {e = e} h g = join-least (within-trans h (join-left c e)) (within-trans g (join-right c e))
 
 -- what is asked with D is granted where what is asked with more is granted
 module _ (at : ℕ → Record) (M : ℕ → ℕ) {D E : ℕ} (h : Within D E) (low : E < 2 ^ 64) where
@@ -40,7 +43,10 @@ module _ (at : ℕ → Record) (M : ℕ → ℕ) {D E : ℕ} (h : Within D E) (l
   carry g = within-trans (low-mono (let l = length-mono h low in omega arith)) g
 
   any : (w : ℕ) {m : ℕ} → Within (allIfAny w E) m → Within (allIfAny w D) m
-  any w g = within-trans (any-mono w D E h) g
+  any w g = within-trans (any-mono (lowMask w) D E h) g
+
+  up-in : (w k : ℕ) → Within (upWithin w k D) (upWithin w k E)
+  up-in w k = cut-mono w (up-mono k h)
 
   pub asks-grow : (kind : Kind) → Granted (asksOf at kind E) M → Granted (asksOf at kind D) M
   asks-grow Input g = tt
@@ -58,6 +64,13 @@ module _ (at : ℕ → Record) (M : ℕ → ℕ) {D E : ℕ} (h : Within D E) (l
   asks-grow (Mul a b) g = (carry (g .0), (carry (g .1 .0), tt))
   asks-grow (Equal a b) g = (any (at a .width) (g .0), (any (at b .width) (g .1 .0), tt))
   asks-grow (Below a b) g = (any (at a .width) (g .0), (any (at b .width) (g .1 .0), tt))
+  asks-grow (LeftShift a k) g = (within-trans (down-mono k h) (g .0), tt)
+  asks-grow (RightShift a k) g = (within-trans (up-in (at a .width) k) (g .0), tt)
+  asks-grow (ArithmeticRightShift a k) g = (
+    within-trans (join-mono (up-in (at a .width) k) (any-mono _ _ _ (down-mono (at a .width - k) h))) (g .0),
+    tt,
+  )
+  asks-grow (SignedBelow a b) g = (any (at a .width) (g .0), (any (at b .width) (g .1 .0), tt))
 
 -- a mask of at most one bit
 one-bit : (m w : ℕ) → m < 2 → 1 ≤ w → Within m (lowMask w)
@@ -70,6 +83,12 @@ module _ (d : Design) (w D : ℕ) (h : D < 2 ^ w) where
 
   low-bits : (j : ℕ) → d .at j .width ≡ w → Within (upToHighest D) (lowMask (d .at j .width))
   low-bits j e = low-mono (let l = length-le w h in omega arith)
+
+  top-low : (u : ℕ) → 1 ≤ u → Within (2 ^ (u - 1)) (lowMask u)
+  top-low u l = within-low u (pow-lt {i = u - 1} (omega arith))
+
+  cut-low : (u k : ℕ) → Within (upWithin u k D) (lowMask u)
+  cut-low u k = within-low u (mod-lt _ (pow-pos u))
 
   pub asks-fit : (kind : Kind) → OperandsBelow (usesOf kind) (d .count) → d .at (usesOf kind .a) .width ≤ maxWidth
       → AllHold (widthRules kind w (d .at (usesOf kind .a) .width) (d .at (usesOf kind .b) .width) (d .at (usesOf kind .c) .width))
@@ -95,14 +114,25 @@ module _ (d : Design) (w D : ℕ) (h : D < 2 ^ w) where
   asks-fit (Add a b) o n r = (o .a, low-bits a (r .0), (o .b, low-bits b (r .1 .0), tt))
   asks-fit (Sub a b) o n r = (o .a, low-bits a (r .0), (o .b, low-bits b (r .1 .0), tt))
   asks-fit (Mul a b) o n r = (o .a, low-bits a (r .0), (o .b, low-bits b (r .1 .0), tt))
-  asks-fit (Equal a b) o n r = (o .a, any-within (d .at a .width) D, (o .b, any-within (d .at b .width) D, tt))
-  asks-fit (Below a b) o n r = (o .a, any-within (d .at a .width) D, (o .b, any-within (d .at b .width) D, tt))
+  asks-fit (Equal a b) o n r = (o .a, any-within _ D, (o .b, any-within _ D, tt))
+  asks-fit (Below a b) o n r = (o .a, any-within _ D, (o .b, any-within _ D, tt))
+  asks-fit (LeftShift a k) o n r = (o .a, within-trans (within-low w (lt-of-le-of-lt (shr-le D k) h)) (low-mono (omega arith)), tt)
+  asks-fit (RightShift a k) o n r = (o .a, cut-low (d .at a .width) k, tt)
+  asks-fit (ArithmeticRightShift a k) o n r = (
+    o .a,
+    join-least (cut-low (d .at a .width) k) (within-trans (any-within _ (down (d .at a .width - k) D)) (top-low (d .at a .width) (omega arith))),
+    tt,
+  )
+  asks-fit (SignedBelow a b) o n r = (o .a, any-within _ D, (o .b, any-within _ D, tt))
 
 low-none : (n : ℕ) → n ≡ 0 → lowMask n ≡ 0
 low-none n = ap lowMask
 
 none-highest : upToHighest 0 ≡ 0
 none-highest = low-none _ (let z = length-zero in omega arith)
+
+none-up : (w k : ℕ) → upWithin w k 0 ≡ 0
+none-up w k = ap (λ (n : ℕ). n % 2 ^ 64 % 2 ^ w) (zero-mul (2 ^ k)) ∙ zero-mod (2 ^ w)
 
 -- with D 0, a kind with fewer operands than a mux asks for no bit
 pub asks-quiet : (at : ℕ → Record) (kind : Kind) → usesOf kind .count < 3 → NoBit (asksOf at kind 0)
@@ -121,6 +151,10 @@ asks-quiet at (Sub a b) h = (none-highest, (none-highest, tt))
 asks-quiet at (Mul a b) h = (none-highest, (none-highest, tt))
 asks-quiet at (Equal a b) h = (refl, (refl, tt))
 asks-quiet at (Below a b) h = (refl, (refl, tt))
+asks-quiet at (LeftShift a k) h = (zero-div _, tt)
+asks-quiet at (RightShift a k) h = (none-up (at a .width) k, tt)
+asks-quiet at (ArithmeticRightShift a k) h = (ap₂ bitOr (none-up (at a .width) k) (ap (ifAny _) (zero-div (2 ^ (at a .width - k)))), tt)
+asks-quiet at (SignedBelow a b) h = (refl, (refl, tt))
 
 -- the two laws for the records of a sound design
 module _ (d : Design) (s : Sound d) (i : ℕ) (h : i < d .count) where

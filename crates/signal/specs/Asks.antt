@@ -2,14 +2,14 @@
 -- Assumes nothing.
 use mathlib.Core.Bool.{cond}
 use mathlib.Core.List.{List, [], _∷_}
-use Prim.Native.Nat.{ℕ, _<_}
-use lib.Bits.{bitAnd}
+use Prim.Native.Nat.{ℕ, _-_, _^_, _<_}
+use lib.Bits.{bitAnd, bitOr}
 use lib.Dec.{eqb}
 use Rattle.bits.specs.Masks.{Within}
 use Rattle.bits.specs.Words.{lowMask, cut, up, down, bitLength}
 use Rattle.netlist.specs.Layout.{Design}
 use Rattle.netlist.specs.declared.record.Kind.{Kind}
-use Rattle.netlist.specs.declared.record.Kind.the-variants.{Input, Constant, Register, Output, Extract, Concat, And, Or, Xor, Mux, Add, Sub, Mul, Equal, Below}
+use Rattle.netlist.specs.declared.record.Kind.the-variants.{Input, Constant, Register, Output, Extract, Concat, And, Or, Xor, Mux, Add, Sub, Mul, Equal, Below, LeftShift, RightShift, ArithmeticRightShift, SignedBelow}
 use Rattle.netlist.specs.declared.record.Record.{Record}
 use Rattle.signal.specs.declared.Ask.{Ask}
 
@@ -21,9 +21,21 @@ ask operand mask = record { operand = operand; mask = mask }
 abbrev pub upToHighest : ℕ → ℕ
 upToHighest D = lowMask (bitLength D)
 
+-- The bits of m "if D is not 0, and nothing if it is".
+abbrev pub ifAny : ℕ → ℕ → ℕ
+ifAny m D = cond (eqb D 0) 0 m
+
 -- "all bits if D is not 0, and nothing if it is", for an operand of w bits
 abbrev pub allIfAny : ℕ → ℕ → ℕ
-allIfAny w D = cond (eqb D 0) 0 (lowMask w)
+allIfAny w D = ifAny (lowMask w) D
+
+-- "D up by k within w"
+abbrev pub upWithin : ℕ → ℕ → ℕ → ℕ
+upWithin w k D = cut w (up k D)
+
+-- "bit w - 1 when D has a bit at w - k or above"
+abbrev pub topIfCopied : ℕ → ℕ → ℕ → ℕ
+topIfCopied w k D = ifAny (2 ^ (w - 1)) (down (w - k) D)
 
 -- What a record of a kind asks of which operand, with D as 01 defines it. `at` gives the record of each number.
 abbrev pub asksOf : (ℕ → Record) → Kind → ℕ → List Ask
@@ -50,6 +62,13 @@ asksOf at (Mul a b) D = ask a (upToHighest D) ∷ ask b (upToHighest D) ∷ []
 -- "equal, below: both have all bits if D is not 0, and nothing if it is"
 asksOf at (Equal a b) D = ask a (allIfAny (at a .width) D) ∷ ask b (allIfAny (at b .width) D) ∷ []
 asksOf at (Below a b) D = ask a (allIfAny (at a .width) D) ∷ ask b (allIfAny (at b .width) D) ∷ []
+-- "Care for a is D down by k in 15"
+asksOf at (LeftShift a k) D = ask a (down k D) ∷ []
+-- "and D up by k within w in 16 and 17", w being W(a); "in 17 also bit w - 1 when D has a bit at w - k or above"
+asksOf at (RightShift a k) D = ask a (upWithin (at a .width) k D) ∷ []
+asksOf at (ArithmeticRightShift a k) D = ask a (bitOr (upWithin (at a .width) k D) (topIfCopied (at a .width) k D)) ∷ []
+-- "Kind 18 goes as 14 does."
+asksOf at (SignedBelow a b) D = ask a (allIfAny (at a .width) D) ∷ ask b (allIfAny (at b .width) D) ∷ []
 
 -- "D(x) is M(x) and its keep word, bit by bit."
 abbrev pub demandOf : Record → ℕ → ℕ

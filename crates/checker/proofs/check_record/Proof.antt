@@ -11,6 +11,7 @@ use borrow.Author.Tests.{lt-ltb, le-ltb, not-true, not-false}
 use denote.Ref.{now}
 use Rattle.netlist.specs.Kinds.{kindOf, operandsOf, usesOf}
 use Rattle.netlist.specs.Layout.{Design, designOf, recordAt, recordStart, recordSize, fieldsAt}
+use Rattle.netlist.specs.Limits.{kindCount}
 use Rattle.netlist.specs.Rules.{testAll}
 use Rattle.netlist.specs.declared.record.Fields.{Fields}
 use Rattle.netlist.specs.declared.record.Uses.{Uses}
@@ -121,7 +122,7 @@ Leaves s n = (v : Verdict) → v ≡ firstBroken (drop n (recordRules (file-of s
 
 kind-known : (c : tie.Else1) → Leaves (from-1 c) 1
 unfolding Leaves recordRules
-kind-known c v = holding _ _ (and-true _ ∙ ap (λ (n : ℕ). ltb n 15) (sym (c .before .code-at .ensures)) ∙ lt-ltb _ _ (c .if1 .left))
+kind-known c v = holding _ _ (and-true _ ∙ ap (λ (n : ℕ). ltb n kindCount) (sym (c .before .code-at .ensures)) ∙ lt-ltb _ _ (c .if1 .left))
 
 width-right : (c : tie.Else2) → Leaves (from-2 c) 2
 unfolding Leaves recordRules
@@ -144,7 +145,7 @@ code-at-requires c κs = omega arith
 
 returns : tie.Need-returns
 unfolding recordRules
-returns c = broken _ _ (and-true _ ∙ ap (λ (n : ℕ). ltb n 15) (sym (c .before .code-at .ensures)) ∙ le-ltb _ _ (c .if1 .taken))
+returns c = broken _ _ (and-true _ ∙ ap (λ (n : ℕ). ltb n kindCount) (sym (c .before .code-at .ensures)) ∙ le-ltb _ _ (c .if1 .taken))
 
 width-at-requires : tie.Need-width-at-requires
 width-at-requires c κs = omega arith

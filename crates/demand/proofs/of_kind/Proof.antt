@@ -1,7 +1,7 @@
 -- `demand::of_kind` meets its contract: each kind has its line in the definition.
 -- Assumes nothing.
-use mathlib.Core.Path.{_≡_, sym, subst}
-use Prim.Native.Nat.{ℕ, _≤_}
+use mathlib.Core.Path.{_≡_, sym, subst, _∙_}
+use Prim.Native.Nat.{ℕ, _≤_, _<_}
 use denote.Ref.{now}
 use Rattle.bits.specs.Words.{up}
 use Rattle.netlist.specs.declared.record.Kind.{Kind}
@@ -133,6 +133,59 @@ of-comparison-requires-2 c κs = let r = subst (λ (k : Kind). Readable (now (c 
       subst (λ (w : ℕ). w ≤ 64) (sym (c .width-at5 .ensures)) (r .narrow-second),
     )
 
+enum-known-kind-14 : tie.Need-enum-known-kind-14
+enum-known-kind-14 c = c .match .keys16
+
+shr-requires : tie.Need-shr-requires
+shr-requires c κs = tt
+
+one-requires-4 : tie.Need-one-requires-4
+one-requires-4 c κs = tt
+
+enum-known-kind-15 : tie.Need-enum-known-kind-15
+enum-known-kind-15 c = c .match .keys17
+
+width-at-requires-6 : tie.Need-width-at-requires-6
+width-at-requires-6 c κs = (subst (λ (k : Kind). Readable (now (c .before .before .before .before .before .args .file)) k) (c .before .kind15 .given .1) (c .before .before .before .before .before .pre .0)) .first
+
+up-within-requires : tie.Need-up-within-requires
+up-within-requires c κs = tt
+
+one-requires-5 : tie.Need-one-requires-5
+one-requires-5 c κs = tt
+
+enum-known-kind-16 : tie.Need-enum-known-kind-16
+enum-known-kind-16 c = c .match .keys18
+
+width-at-requires-7 : tie.Need-width-at-requires-7
+width-at-requires-7 c κs = (subst (λ (k : Kind). Readable (now (c .before .before .before .before .before .args .file)) k) (c .before .kind16 .given .1) (c .before .before .before .before .before .pre .0)) .first
+
+of-arithmetic-shift-requires : tie.Need-of-arithmetic-shift-requires
+unfolding designOf recordAt
+of-arithmetic-shift-requires c κs =
+    let r = (subst (λ (k : Kind). Readable (now (c .before .before .before .before .before .before .args .file)) k) (c .before .before .kind16 .given .1) (c .before .before .before .before .before .before .pre .0)) in
+    let same = sym (c .width-at7 .ensures) in (
+      subst (λ (w : ℕ). c .before .before .kind16 .given .0 .1 .0 < w) (sym (r .widths .0) ∙ same) (r .widths .1 .0),
+      subst (λ (w : ℕ). w ≤ 64) same (r .narrow-first),
+    )
+
+enum-known-kind-17 : tie.Need-enum-known-kind-17
+enum-known-kind-17 c = c .match .keys19
+
+width-at-requires-8 : tie.Need-width-at-requires-8
+width-at-requires-8 c κs = (subst (λ (k : Kind). Readable (now (c .before .before .before .before .before .args .file)) k) (c .before .kind17 .given .1) (c .before .before .before .before .before .pre .0)) .first
+
+width-at-requires-9 : tie.Need-width-at-requires-9
+width-at-requires-9 c κs = (subst (λ (k : Kind). Readable (now (c .before .before .before .before .before .before .args .file)) k) (c .before .before .kind17 .given .1) (c .before .before .before .before .before .before .pre .0)) .second
+
+of-comparison-requires-3 : tie.Need-of-comparison-requires-3
+unfolding designOf recordAt
+of-comparison-requires-3 c κs =
+    let r = (subst (λ (k : Kind). Readable (now (c .before .before .before .before .before .before .before .args .file)) k) (c .before .before .before .kind17 .given .1) (c .before .before .before .before .before .before .before .pre .0)) in (
+      subst (λ (w : ℕ). w ≤ 64) (sym (c .before .width-at8 .ensures)) (r .narrow-first),
+      subst (λ (w : ℕ). w ≤ 64) (sym (c .width-at9 .ensures)) (r .narrow-second),
+    )
+
 returns : tie.Need-returns
 returns c = rw (c .before .enum-told .given .1) (c .none .ensures)
 
@@ -186,6 +239,23 @@ unfolding designOf recordAt
 returns-15 c = rw (c .before .before .before .before .kind13 .given .1, ← c .before .before .width-at4 .ensures, ← c .before .width-at5 .ensures)
     (c .of-comparison2 .ensures)
 
+returns-16 : tie.Need-returns-16
+returns-16 c = rw (c .before .before .before .kind14 .given .1, ← c .before .shr .ensures) (c .one4 .ensures)
+
+returns-17 : tie.Need-returns-17
+unfolding designOf recordAt
+returns-17 c = rw (c .before .before .before .before .kind15 .given .1, ← c .before .before .width-at6 .ensures, ← c .before .up-within .ensures)
+    (c .one5 .ensures)
+
+returns-18 : tie.Need-returns-18
+unfolding designOf recordAt
+returns-18 c = rw (c .before .before .before .kind16 .given .1, ← c .before .width-at7 .ensures) (c .of-arithmetic-shift .ensures)
+
+returns-19 : tie.Need-returns-19
+unfolding designOf recordAt
+returns-19 c = rw (c .before .before .before .before .kind17 .given .1, ← c .before .before .width-at8 .ensures, ← c .before .width-at9 .ensures)
+    (c .of-comparison3 .ensures)
+
 pub of-kind-spec : {M : Type 1} → statement M
 of-kind-spec =
     tie.close
@@ -226,6 +296,20 @@ of-kind-spec =
     width-at-requires-4
     width-at-requires-5
     of-comparison-requires-2
+    enum-known-kind-14
+    shr-requires
+    one-requires-4
+    enum-known-kind-15
+    width-at-requires-6
+    up-within-requires
+    one-requires-5
+    enum-known-kind-16
+    width-at-requires-7
+    of-arithmetic-shift-requires
+    enum-known-kind-17
+    width-at-requires-8
+    width-at-requires-9
+    of-comparison-requires-3
     returns
     returns-2
     returns-3
@@ -240,4 +324,8 @@ of-kind-spec =
     returns-12
     returns-13
     returns-14
-    returns-15)
+    returns-15
+    returns-16
+    returns-17
+    returns-18
+    returns-19)

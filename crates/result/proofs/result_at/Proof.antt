@@ -1,11 +1,11 @@
 -- `result::result_at` meets its contract: the operand fields, used or not, name records of the file and words of the board.
 -- Assumes nothing.
 use mathlib.Core.Path.{sym, subst, _∙_}
-use Prim.Native.Nat.{_≤_}
+use Prim.Native.Nat.{ℕ, _≤_}
 use native.Mathlib.Omega.{arith}
 use denote.Ref.{now}
 use Rattle.netlist.specs.declared.record.Record.{Record}
-use Rattle.netlist.specs.Layout.{designOf, countOf}
+use Rattle.netlist.specs.Layout.{designOf, countOf, recordAt}
 use Rattle.rules.proofs.Acceptance.{holds-record}
 use Rattle.result.proofs.Reading.{Inside, operands-in, result-read}
 use Rattle.result.proofs.result_at.Statement.{statement}
@@ -56,11 +56,19 @@ shared-slice-read-result-of-4 : tie.Need-shared-slice-read-result-of-4
 shared-slice-read-result-of-4 c = let read = c .before .before .before .before .before in omega (arith, inside read .c, from read .pre .size)
 
 result-of-requires : tie.Need-result-of-requires
-unfolding designOf
+unfolding designOf recordAt
 result-of-requires c κs =
     let read = c .before .before .before .before .before in
     let s = from read in
-    subst (λ (r : Record). r .width ≤ 64) (sym (read .before .record-at .ensures)) (s .pre .accepted .sound .each (s .args .i) (s .pre .below) .narrow)
+    let own = s .pre .accepted .sound .each (s .args .i) (s .pre .below) in
+    let second = s .pre .accepted .sound .each _ (inside read .b) in
+    let same = sym (read .before .record-at .ensures) in
+    let read-same = sym (c .before .before .before .before .width-at .ensures) in (
+      subst (λ (r : Record). 1 ≤ r .width) same (own .positive),
+      subst (λ (r : Record). r .width ≤ 64) same (own .narrow),
+      subst (λ (w : ℕ). 1 ≤ w) read-same (second .positive),
+      subst (λ (w : ℕ). w ≤ 64) read-same (second .narrow),
+    )
 
 returns : tie.Need-returns
 returns c =

@@ -1,6 +1,10 @@
 -- `result::result_of` meets its contract: each kind has its line in the definition.
 -- Assumes nothing.
+use mathlib.Core.Path.{ap, _∙_}
+use Prim.Native.Nat.{_*_, _^_}
+use native.Mathlib.Nat.{add-zero}
 use native.Mathlib.Omega.{arith}
+use Rattle.bits.specs.Words.{cut}
 use Rattle.result.proofs.result_of.Statement.{statement}
 use Rattle.result.proofs.result_of.Tie as tie
 
@@ -76,6 +80,30 @@ enum-told-13 c = c .match .keys15
 below-requires : tie.Need-below-requires
 below-requires c κs = tt
 
+enum-known-kind-3 : tie.Need-enum-known-kind-3
+enum-known-kind-3 c = c .match .keys16
+
+concat-requires-2 : tie.Need-concat-requires-2
+concat-requires-2 c κs = let p = c .before .before .before .pre in omega arith
+
+enum-known-kind-4 : tie.Need-enum-known-kind-4
+enum-known-kind-4 c = c .match .keys17
+
+shr-requires-2 : tie.Need-shr-requires-2
+shr-requires-2 c κs = tt
+
+enum-known-kind-5 : tie.Need-enum-known-kind-5
+enum-known-kind-5 c = c .match .keys18
+
+arithmetic-right-shift-requires : tie.Need-arithmetic-right-shift-requires
+arithmetic-right-shift-requires c κs = let p = c .before .before .before .pre in (p .0, p .1)
+
+enum-told-14 : tie.Need-enum-told-14
+enum-told-14 c = c .match .keys19
+
+signed-below-requires : tie.Need-signed-below-requires
+signed-below-requires c κs = let p = c .before .before .pre in (p .2, p .3)
+
 returns : tie.Need-returns
 returns c = rw (c .enum-told .given .1)
 
@@ -121,6 +149,20 @@ returns-14 c = rw (c .before .enum-told12 .given .1) (c .equal .ensures)
 returns-15 : tie.Need-returns-15
 returns-15 c = rw (c .before .enum-told13 .given .1) (c .below .ensures)
 
+returns-16 : tie.Need-returns-16
+returns-16 c = let args = c .before .before .before .before .args in
+    let k = c .before .before .kind3 .given .0 .1 .0 in
+    rw (c .before .before .kind3 .given .1) (c .concat2 .ensures ∙ ap (cut (args .w)) (add-zero (args .x * 2 ^ k)))
+
+returns-17 : tie.Need-returns-17
+returns-17 c = rw (c .before .before .kind4 .given .1) (c .shr2 .ensures)
+
+returns-18 : tie.Need-returns-18
+returns-18 c = rw (c .before .before .kind5 .given .1) (c .arithmetic-right-shift .ensures)
+
+returns-19 : tie.Need-returns-19
+returns-19 c = rw (c .before .enum-told14 .given .1) (c .signed-below .ensures)
+
 pub result-of-spec : {M : Type 1} → statement M
 result-of-spec =
     tie.close
@@ -149,6 +191,14 @@ result-of-spec =
     equal-requires
     enum-told-13
     below-requires
+    enum-known-kind-3
+    concat-requires-2
+    enum-known-kind-4
+    shr-requires-2
+    enum-known-kind-5
+    arithmetic-right-shift-requires
+    enum-told-14
+    signed-below-requires
     returns
     returns-2
     returns-3
@@ -163,4 +213,8 @@ result-of-spec =
     returns-12
     returns-13
     returns-14
-    returns-15)
+    returns-15
+    returns-16
+    returns-17
+    returns-18
+    returns-19)
