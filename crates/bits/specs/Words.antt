@@ -18,7 +18,7 @@ lowMasks = wordsOf lowMask 65
 abbrev pub cut : ℕ → ℕ → ℕ
 cut w x = x % 2 ^ w
 
--- "moved up by l places". A word has 64 bits; no bit of a mask leaves it, since k + w is at most 64 (`up-exact`).
+-- "moved up by l places". A word has 64 bits; no bit of an extract's mask leaves it, since k + w is at most 64 (`up-exact`).
 abbrev pub up : ℕ → ℕ → ℕ
 up k x = x * 2 ^ k % 2 ^ 64
 

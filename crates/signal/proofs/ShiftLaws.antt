@@ -4,7 +4,7 @@ use mathlib.Core.Path.{_≡_, refl, sym, ap, ap₂, _∙_, subst₂}
 use mathlib.Core.Bool.{cond}
 use mathlib.Core.Logic.{_⊎_, inl, inr}
 use Prim.Native.Nat.{ℕ, zero, suc, _+_, _-_, _*_, _/_, _%_, _^_, _≤_, _<_, max}
-use native.Mathlib.Nat.{add-zero, add-comm, one-mul, mul-mod-left, eq-zero-or-pos, max-zero}
+use native.Mathlib.Nat.{add-zero, add-comm, one-mul, mod-lt, mul-mod-left, eq-zero-or-pos, max-zero}
 use native.Mathlib.Omega.{arith}
 use lib.Bits.{bitOr}
 use lib.Dec.{eqb, ltb, eqb·suc-zero, lit<}
@@ -37,7 +37,11 @@ moved-bit x k j = cases (eq-zero-or-pos (k - j))
     cases (inl h) = rw (le-ltb j k (omega arith)) (ap (bit (x * 2 ^ k)) (omega arith) ∙ bit-up x k (j - k))
     cases (inr h) = rw (lt-ltb j k (omega arith)) (below-moved x k j (omega arith))
 
--- bit j of a left shift by k is bit j - k of a, and 0 below k
+-- no bit of a left shift stands beyond the width
+pub left-shift-beyond : (a k w wb own x y z j : ℕ) → w ≤ j → bit (resultOf (LeftShift a k) w wb own x y z) j ≡ 0
+left-shift-beyond a k w wb own x y z j h = bit-beyond w j (mod-lt _ (pow-pos w)) h
+
+-- within it, bit j of a left shift by k is bit j - k of a, and 0 below k
 pub left-shift-bit : (a k w wb own x y z j : ℕ) → j < w
     → bit (resultOf (LeftShift a k) w wb own x y z) j ≡ cond (ltb j k) 0 (bit x (j - k))
 left-shift-bit a k w wb own x y z j h = bit-cut (x * 2 ^ k) w j h ∙ moved-bit x k j
@@ -55,7 +59,7 @@ right-shift-bit a k w wb own x y z j = bit-down x k j ∙ ap (bit x) (add-comm k
 
 -- a bit of D that stays within the width is asked where it was moved to
 asked-moved : (D w k i : ℕ) → w ≤ 64 → k + i < w → bit (upWithin w k D) (k + i) ≡ bit D i
-asked-moved D w k i n h = bit-cut (up k D) w (k + i) h ∙ bit-cut (D * 2 ^ k) 64 (k + i) (omega arith) ∙ bit-up D k i
+asked-moved D w k i n h = bit-cut _ w (k + i) h ∙ bit-cut _ 64 (k + i) (omega arith) ∙ bit-up D k i
 
 pub agree-right-shift : {D x y : ℕ} (w k : ℕ) → w ≤ 64 → x < 2 ^ w → y < 2 ^ w → Agree (upWithin w k D) x y → Agree D (down k x) (down k y)
 agree-right-shift {D} {x} {y} w k n hx hy a = agree-by-bits (λ i e. bit-down x k i ∙ same i e (eq-zero-or-pos (w - (k + i))) ∙ sym (bit-down y k i))
@@ -86,31 +90,24 @@ emptied-above w k j h g l =
     ap₂ bit (emptied-high w k h) e ∙ bit-up (lowMask k) (w - k) i ∙ bit-low k i (omega arith)
 
 module _ (w k x : ℕ) where
-  -- the word that fills the empty places
-  fill : ℕ
-  fill = cond (eqb (topBit w x) 1) (emptied w k) 0
-
-  filled : (j : ℕ) → bit (arithmeticDown w k x) j ≡ max (bit x (k + j)) (bit fill j)
-  unfolding fill
-  filled j = bit-or (down k x) fill j ∙ ap (λ (n : ℕ). max n (bit fill j)) (bit-down x k j)
-
   -- bit j of an arithmetic right shift by k is bit j + k of a where a has one
   pub arithmetic-moved : (j : ℕ) → k + j < w → bit (arithmeticDown w k x) j ≡ bit x (k + j)
-  unfolding fill
-  arithmetic-moved j g = filled j ∙ ap (max (bit x (k + j))) (empty (bit-cases x (w - 1))) ∙ max-zero (bit x (k + j))
+  arithmetic-moved j g = cases (bit-cases x (w - 1))
     where
-      empty : (topBit w x ≡ 0) ⊎ (topBit w x ≡ 1) → bit fill j ≡ 0
-      empty (inl e) = rw e (no-bit j)
-      empty (inr e) = rw e (emptied-below w k j (omega arith) g)
+      cases : (topBit w x ≡ 0) ⊎ (topBit w x ≡ 1) → bit (arithmeticDown w k x) j ≡ bit x (k + j)
+      cases (inl e) = rw e (bit-or (down k x) _ j ∙ ap₂ max (bit-down x k j) (no-bit j) ∙ max-zero (bit x (k + j)))
+      cases (inr e) = rw e (bit-or (down k x) _ j ∙ ap₂ max (bit-down x k j) (emptied-below w k j (omega arith) g) ∙ max-zero (bit x (k + j)))
 
   -- and else the top bit of a
   pub arithmetic-copied : (j : ℕ) → x < 2 ^ w → k < w → w ≤ k + j → j < w → bit (arithmeticDown w k x) j ≡ topBit w x
-  unfolding fill
-  arithmetic-copied j hx h g l = filled j ∙ ap (λ (n : ℕ). max n (bit fill j)) (bit-beyond w (k + j) hx g) ∙ copy (bit-cases x (w - 1))
+  arithmetic-copied j hx h g l = cases (bit-cases x (w - 1))
     where
-      copy : (topBit w x ≡ 0) ⊎ (topBit w x ≡ 1) → max 0 (bit fill j) ≡ topBit w x
-      copy (inl e) = rw e (ap (max 0) (no-bit j))
-      copy (inr e) = rw e (ap (max 0) (emptied-above w k j h g l))
+      beyond : bit (down k x) j ≡ 0
+      beyond = bit-down x k j ∙ bit-beyond w (k + j) hx g
+
+      cases : (topBit w x ≡ 0) ⊎ (topBit w x ≡ 1) → bit (arithmeticDown w k x) j ≡ topBit w x
+      cases (inl e) = rw e (bit-or (down k x) _ j ∙ ap₂ max beyond (no-bit j))
+      cases (inr e) = rw e (bit-or (down k x) _ j ∙ ap₂ max beyond (emptied-above w k j h g l))
 
 -- where D has a bit that shows the copied top bit, the top bit is asked
 asked-top : (D w k i : ℕ) → w ≤ k + i → bit D i ≡ 1 → bit (topIfCopied w k D) (w - 1) ≡ 1

@@ -3,9 +3,10 @@
 use mathlib.Core.Path.{_≡_, sym, subst, _∙_}
 use Prim.Native.Nat.{ℕ, _≤_, _<_}
 use denote.Ref.{now}
-use Rattle.bits.specs.Words.{up}
+use Rattle.bits.specs.Words.{up, down}
 use Rattle.netlist.specs.declared.record.Kind.{Kind}
 use Rattle.netlist.specs.Layout.{designOf, recordAt}
+use Rattle.signal.specs.Asks.{upWithin}
 use Rattle.demand.specs.Held.{Readable}
 use Rattle.demand.proofs.of_kind.Statement.{statement}
 use Rattle.demand.proofs.of_kind.Tie as tie
@@ -240,12 +241,18 @@ returns-15 c = rw (c .before .before .before .before .kind13 .given .1, ← c .b
     (c .of-comparison2 .ensures)
 
 returns-16 : tie.Need-returns-16
-returns-16 c = rw (c .before .before .before .kind14 .given .1, ← c .before .shr .ensures) (c .one4 .ensures)
+returns-16 c = let kind = c .before .before .before .kind14 in
+    let args = c .before .before .before .before .before .before .before .args in
+    let moved : c .before .shr .result ≡ down (kind .given .0 .1 .0) (args .d) = c .before .shr .ensures in
+    rw (kind .given .1, ← moved) (c .one4 .ensures)
 
 returns-17 : tie.Need-returns-17
 unfolding designOf recordAt
-returns-17 c = rw (c .before .before .before .before .kind15 .given .1, ← c .before .before .width-at6 .ensures, ← c .before .up-within .ensures)
-    (c .one5 .ensures)
+returns-17 c = let kind = c .before .before .before .before .kind15 in
+    let args = c .before .before .before .before .before .before .before .before .args in
+    let width = c .before .before .width-at6 in
+    let moved : c .before .up-within .result ≡ upWithin (width .result) (kind .given .0 .1 .0) (args .d) = c .before .up-within .ensures in
+    rw (kind .given .1, ← width .ensures, ← moved) (c .one5 .ensures)
 
 returns-18 : tie.Need-returns-18
 unfolding designOf recordAt

@@ -1,10 +1,10 @@
 -- `result::arithmetic_right_shift` meets its contract: the test of the top bit is the definition's.
 -- Assumes nothing.
-use mathlib.Core.Path.{_≡_, sym, ap, _∙_}
+use mathlib.Core.Path.{_≡_, sym, ap, ap₂, _∙_}
 use Prim.Native.Nat.{ℕ, _%_}
 use borrow.Author.Needs.{needs}
 use borrow.Author.Tests.{eq-eqb, ne-eqb}
-use lib.Bits.{or-zero-r}
+use lib.Bits.{bitOr, or-zero-r}
 use Rattle.signal.specs.Results.{topBit}
 use Rattle.result.proofs.arithmetic_right_shift.Statement.{statement}
 use Rattle.result.proofs.arithmetic_right_shift.Tie as tie
@@ -28,12 +28,12 @@ tested c = ap (λ (n : ℕ). n % 2) (c .shr2 .ensures)
 returns : tie.Need-returns
 returns c = let top = c .before .before in
     let set = sym (tested top) ∙ c .before .if1 .taken in
-    rw (set, ← c .emptied .ensures, ← c .before .before .before .shr .ensures)
+    rw set (ap₂ bitOr (c .before .before .before .shr .ensures) (c .emptied .ensures))
 
 returns-2 : tie.Need-returns-2
 returns-2 c = let args = c .before .before .before .args in
     let clear = ne-eqb (topBit (args .w) (args .x)) 1 (λ e. c .if1 .left (tested (c .before) ∙ e)) in
-    rw (clear, ← c .before .before .shr .ensures) (sym (or-zero-r _))
+    rw clear (c .before .before .shr .ensures ∙ sym (or-zero-r _))
 
 pub arithmetic-right-shift-spec : {M : Type 1} → statement M
 arithmetic-right-shift-spec =
