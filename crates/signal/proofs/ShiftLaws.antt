@@ -90,15 +90,7 @@ emptied-above w k j h g l =
     ap₂ bit (emptied-high w k h) e ∙ bit-up (lowMask k) (w - k) i ∙ bit-low k i (omega arith)
 
 module _ (w k x : ℕ) where
-  -- bit j of an arithmetic right shift by k is bit j + k of a where a has one
-  pub arithmetic-moved : (j : ℕ) → k + j < w → bit (arithmeticDown w k x) j ≡ bit x (k + j)
-  arithmetic-moved j g = cases (bit-cases x (w - 1))
-    where
-      cases : (topBit w x ≡ 0) ⊎ (topBit w x ≡ 1) → bit (arithmeticDown w k x) j ≡ bit x (k + j)
-      cases (inl e) = rw e (bit-or (down k x) _ j ∙ ap₂ max (bit-down x k j) (no-bit j) ∙ max-zero (bit x (k + j)))
-      cases (inr e) = rw e (bit-or (down k x) _ j ∙ ap₂ max (bit-down x k j) (emptied-below w k j (omega arith) g) ∙ max-zero (bit x (k + j)))
-
-  -- and else the top bit of a
+  -- bit j of an arithmetic right shift by k is the top bit of a where a has no bit j + k
   pub arithmetic-copied : (j : ℕ) → x < 2 ^ w → k < w → w ≤ k + j → j < w → bit (arithmeticDown w k x) j ≡ topBit w x
   arithmetic-copied j hx h g l = cases (bit-cases x (w - 1))
     where
@@ -108,6 +100,14 @@ module _ (w k x : ℕ) where
       cases : (topBit w x ≡ 0) ⊎ (topBit w x ≡ 1) → bit (arithmeticDown w k x) j ≡ topBit w x
       cases (inl e) = rw e (bit-or (down k x) _ j ∙ ap₂ max beyond (no-bit j))
       cases (inr e) = rw e (bit-or (down k x) _ j ∙ ap₂ max beyond (emptied-above w k j h g l))
+
+  -- and else that bit of a
+  pub arithmetic-moved : (j : ℕ) → k + j < w → bit (arithmeticDown w k x) j ≡ bit x (k + j)
+  arithmetic-moved j g = cases (bit-cases x (w - 1))
+    where
+      cases : (topBit w x ≡ 0) ⊎ (topBit w x ≡ 1) → bit (arithmeticDown w k x) j ≡ bit x (k + j)
+      cases (inl e) = rw e (bit-or (down k x) _ j ∙ ap₂ max (bit-down x k j) (no-bit j) ∙ max-zero (bit x (k + j)))
+      cases (inr e) = rw e (bit-or (down k x) _ j ∙ ap₂ max (bit-down x k j) (emptied-below w k j (omega arith) g) ∙ max-zero (bit x (k + j)))
 
 -- where D has a bit that shows the copied top bit, the top bit is asked
 asked-top : (D w k i : ℕ) → w ≤ k + i → bit D i ≡ 1 → bit (topIfCopied w k D) (w - 1) ≡ 1
