@@ -19,9 +19,11 @@ enum { HEADER = 8, RECORD = 24, KIND = 0, WIDTH = 1, KEEP = 16, MOST = 2048 };
 
 enum { TRIMMED = 0, REFUSED = 1, TROUBLE = 2 };
 
+/* Without spaces, since these part the fields of a line. */
 static const char *const kinds[] = {
     "input", "constant", "register", "output", "extract", "concat", "and",
-    "or", "xor", "mux", "add", "sub", "mul", "equal", "below"
+    "or", "xor", "mux", "add", "sub", "mul", "equal", "below", "left-shift",
+    "right-shift", "arithmetic-right-shift", "signed-below"
 };
 
 /* For every number that check, masks and trim give. */

@@ -6,7 +6,8 @@ import struct
 import sys
 
 (INPUT, CONSTANT, REGISTER, OUTPUT, EXTRACT, CONCAT, AND, OR, XOR, MUX, ADD,
- SUB, MUL, EQUAL, BELOW) = range(15)
+ SUB, MUL, EQUAL, BELOW, LEFT_SHIFT, RIGHT_SHIFT, ARITHMETIC_SHIFT,
+ SIGNED_BELOW) = range(19)
 
 
 class Design:
@@ -60,6 +61,13 @@ class Design:
 
     def below(self, a, b):
         return self.record(BELOW, 1, a, b)
+
+    def signed_below(self, a, b):
+        return self.record(SIGNED_BELOW, 1, a, b)
+
+    def shift(self, kind, a, places):
+        """Left, right or arithmetic right shift; the width stays."""
+        return self.record(kind, self.width(a), a, k=places)
 
     def file(self):
         header = struct.pack("<3sHBH", b"PCN", 1, 0, len(self.records))
@@ -120,6 +128,33 @@ def register_ring():
     high = d.extract(ring[0], 3, 9)
     d.load(ring[3], d.concat(low, high))
     d.output(d.extract(ring[1], 0, 1))
+    return d
+
+
+def signed_angle():
+    """A blade encoder gives a signed angle in sixteenths of a degree, in the
+    upper 12 of its 16 bits; below stands its own status, which nobody reads.
+    The display gets whole degrees, rounded towards 0. Eight of 16 switches
+    set a limit in whole degrees, signed as well, and an alarm comes on when
+    the angle is below it."""
+    d = Design()
+    encoder = d.input(16)
+    switches = d.input(16)
+    angle = d.shift(ARITHMETIC_SHIFT, encoder, 4)
+
+    # A shift alone rounds down, so 15 sixteenths are added to an angle below
+    # 0: its sign in all bits, of which the upper four come down.
+    sign = d.shift(ARITHMETIC_SHIFT, angle, 15)
+    correction = d.shift(RIGHT_SHIFT, sign, 12)
+    corrected = d.gate(ADD, angle, correction)
+    degrees = d.shift(ARITHMETIC_SHIFT, corrected, 4)
+    d.output(degrees)
+
+    # Up and down again: the upper switches drop out, and copies of the
+    # limit's sign come in their place.
+    upper = d.shift(LEFT_SHIFT, switches, 8)
+    limit = d.shift(ARITHMETIC_SHIFT, upper, 8)
+    d.output(d.signed_below(degrees, limit))
     return d
 
 
@@ -274,6 +309,7 @@ DESIGNS = {
     "shift-chain": shift_chain(),
     "unread-mux": unread_mux(),
     "register-ring": register_ring(),
+    "signed-angle": signed_angle(),
     "pitch-card": pitch_card(),
 }
 

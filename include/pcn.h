@@ -44,14 +44,15 @@ extern "C" {
     3  The version is not 1.
     4  The header announces more than 2,048 records.
     5  The length is not 8 bytes and 24 for each record announced.
-    6  The kind of the record is above 14.
+    6  The kind of the record is above 18.
     7  The width of the record is 0 or above 64.
     8  An operand that the kind uses points to no record that it may read. A
        register may read any record of the file, also itself and later ones.
        Every other kind may read earlier records only. No kind may read an
        output.
     9  The width does not fit the operands' widths as the kind demands. For
-       an extract this includes reading beyond the end of its operand.
+       an extract this includes reading beyond the end of its operand, and
+       for a shift moving by as many places as the width has, or more.
    10  A field that the kind does not use is not 0, or the keep word has a
        bit beyond the width, or so has the value of a constant or the reset
        state of a register.

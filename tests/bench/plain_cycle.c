@@ -52,25 +52,51 @@ static uint64_t look_over(const uint8_t *restrict file, uint32_t count,
     return beyond;
 }
 
+/* a above b. */
+static inline uint64_t joined(const uint8_t *file, const uint8_t *p,
+                              const uint64_t *board)
+{
+    return operand(board, p + 2) << width_at(file, read_16(p + 4))
+         | operand(board, p + 4);
+}
+
+/* The word as a number with a sign, times a power of two: the top bit of its
+   width is moved to bit 63. */
+static inline int64_t raised(uint64_t word, unsigned width)
+{
+    return (int64_t)(word << (64 - width));
+}
+
+/* The word moved down by k places; gcc copies the sign of a number then. */
+static inline uint64_t copying_shift(uint64_t word, unsigned width, unsigned k)
+{
+    return (uint64_t)(raised(word, width) >> (64 - width + k));
+}
+
+static inline int signed_below(const uint8_t *file, const uint8_t *p,
+                               const uint64_t *board)
+{
+    unsigned width = width_at(file, read_16(p + 2));
+
+    return raised(operand(board, p + 2), width)
+         < raised(operand(board, p + 4), width);
+}
+
 /* The result of the record at `p`, whose own word is `own`. The keep word
    that is put on it later has no bit beyond the width, so nothing else needs
-   to cut it. */
+   to cut it. The k of an output is 0. An input or register has its word. */
 static inline uint64_t result(const uint8_t *file, const uint8_t *p,
                               const uint64_t *board, uint64_t own)
 {
     switch (p[0]) {
-    case KIND_INPUT:
-    case KIND_REGISTER:
-        return own;
     case KIND_CONSTANT:
         return load_64(p + 8);
     case KIND_OUTPUT:
-        return operand(board, p + 2);
     case KIND_EXTRACT:
+    case KIND_RIGHT_SHIFT:
         return operand(board, p + 2) >> p[8];
     case KIND_CONCAT:
-        return operand(board, p + 2) << width_at(file, read_16(p + 4))
-             | operand(board, p + 4);
+        return joined(file, p, board);
     case KIND_AND:
         return operand(board, p + 2) & operand(board, p + 4);
     case KIND_OR:
@@ -87,8 +113,16 @@ static inline uint64_t result(const uint8_t *file, const uint8_t *p,
         return operand(board, p + 2) * operand(board, p + 4);
     case KIND_EQUAL:
         return operand(board, p + 2) == operand(board, p + 4);
-    default:
+    case KIND_BELOW:
         return operand(board, p + 2) < operand(board, p + 4);
+    case KIND_LEFT_SHIFT:
+        return operand(board, p + 2) << p[8];
+    case KIND_ARITHMETIC_SHIFT:
+        return copying_shift(operand(board, p + 2), p[1], p[8]);
+    case KIND_SIGNED_BELOW:
+        return (uint64_t)signed_below(file, p, board);
+    default:
+        return own;
     }
 }
 

@@ -17,12 +17,28 @@ static inline uint64_t ask(uint64_t *masks, uint32_t number, uint64_t bits)
     return added;
 }
 
+/* The low bits of D go to b, and the rest to a. */
+static inline uint64_t ask_parts(uint64_t *masks, uint32_t a, uint32_t b,
+                                 unsigned low, uint64_t d)
+{
+    return ask(masks, a, d >> low) | ask(masks, b, d & width_mask(low));
+}
+
+/* What the arithmetic shift at `p` asks: D moved up, and the top bit for the
+   places that copy it. The place below these has that bit itself. */
+static inline uint64_t asked_by_copies(const uint8_t *p, uint64_t d)
+{
+    unsigned top = p[1] - 1u;
+    uint64_t copied = d >> (top - p[8]) != 0;
+
+    return (d << p[8] & width_mask(p[1])) | copied << top;
+}
+
 /* What the record at `p` asks of its operands; D may be 0 for a mux only. */
 static inline uint64_t ask_operands(const uint8_t *file, const uint8_t *p,
                                     uint64_t d, uint64_t *masks)
 {
     uint32_t a = read_16(p + 2), b = read_16(p + 4);
-    unsigned low;
 
     switch (p[0]) {
     case KIND_INPUT:
@@ -34,8 +50,7 @@ static inline uint64_t ask_operands(const uint8_t *file, const uint8_t *p,
     case KIND_EXTRACT:
         return ask(masks, a, d << p[8]);
     case KIND_CONCAT:
-        low = width_at(file, b);
-        return ask(masks, a, d >> low) | ask(masks, b, d & width_mask(low));
+        return ask_parts(masks, a, b, width_at(file, b), d);
     case KIND_MUX:
         return ask(masks, a, 1) | ask(masks, b, d)
              | ask(masks, read_16(p + 6), d);
@@ -44,8 +59,15 @@ static inline uint64_t ask_operands(const uint8_t *file, const uint8_t *p,
     case KIND_MUL:
         d = ~(uint64_t)0 >> __builtin_clzll(d);
         break;
+    case KIND_LEFT_SHIFT:
+        return ask(masks, a, d >> p[8]);
+    case KIND_RIGHT_SHIFT:
+        return ask(masks, a, d << p[8] & width_mask(p[1]));
+    case KIND_ARITHMETIC_SHIFT:
+        return ask(masks, a, asked_by_copies(p, d));
     case KIND_EQUAL:
     case KIND_BELOW:
+    case KIND_SIGNED_BELOW:
         d = width_mask(width_at(file, a));
         break;
     default:

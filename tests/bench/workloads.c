@@ -20,10 +20,12 @@ static memory own[MOST_FILES], shared;
 /* Kinds alike but for twice the registers, with inputs in front and outputs
    at the end. */
 static const struct style clocked_style = {
-    { 1, 1, 2, 1, 1, 1, 1, 1, 1, 1, 1, 1, 0, 1, 1 }, 4, 2, 0, KEEP_MOSTLY
+    { 1, 1, 2, 1, 1, 1, 1, 1, 1, 1, 1, 1, 0, 1, 1, 1, 1, 1, 1 }, 4, 2, 0,
+    KEEP_MOSTLY
 };
 static const struct style clocked_with_mul_style = {
-    { 1, 1, 2, 1, 1, 1, 1, 1, 1, 1, 1, 1, 1, 1, 1 }, 4, 2, 0, KEEP_MOSTLY
+    { 1, 1, 2, 1, 1, 1, 1, 1, 1, 1, 1, 1, 1, 1, 1, 1, 1, 1, 1 }, 4, 2, 0,
+    KEEP_MOSTLY
 };
 
 /* A list that is only written is the same memory for all designs; one that is

@@ -122,7 +122,7 @@ static void change_k(struct rng *rng, struct netlist *net)
 {
     struct record *record = any_record(rng, net);
 
-    if (record->kind == KIND_EXTRACT)
+    if (record->kind == KIND_EXTRACT || kind_shifts(record->kind))
         record->k = rng_below(rng, WIDTH_LIMIT);
     else if (is_width(record->width))
         record->k = design_word(rng, record->width);

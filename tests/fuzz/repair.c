@@ -52,6 +52,15 @@ static void make_extract(const struct netlist *net, struct record *record)
     record->k %= from - record->width + 1u;
 }
 
+/* Places beyond the width become as many as there may be. */
+static void fit_shift(const struct netlist *net, struct record *record)
+{
+    record->width = net->records[record->operand[0]].width;
+    if (record->k >= WIDTH_LIMIT)
+        record->k = record->width - 1u;
+    record->k %= record->width;
+}
+
 /* A concat of records that are too wide becomes an extract. */
 static void fit_concat(const struct netlist *net, struct record *record,
                        uint32_t limit)
@@ -111,10 +120,12 @@ static void fit_reader(const struct netlist *net, struct record *record,
         make_extract(net, record);
     } else if (record->kind == KIND_CONCAT) {
         fit_concat(net, record, number);
+    } else if (kind_shifts(record->kind)) {
+        fit_shift(net, record);
     } else {
         if (record->kind != KIND_OUTPUT)
             operand[1] = alike_record(net, operand[1], number, a);
-        record->width = record->kind >= KIND_EQUAL
+        record->width = kind_compares(record->kind)
             ? 1 : net->records[a].width;
     }
 }

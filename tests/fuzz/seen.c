@@ -12,7 +12,7 @@
 #include "../harness/operations.h"
 #include "fault.h"
 
-enum { REFUSALS = 32, AMOUNTS = 3 };
+enum { REFUSALS = 32, AMOUNTS = 3, SHIFTS = 3 };
 
 /* The cases, each a byte. An input that meets a case for the first time is
    kept, as one is that reaches new code of the model: the model is short, and
@@ -35,7 +35,12 @@ enum {
                       /* for extract: k */
     LOW = PLACE + WIDTH_LIMIT,
                       /* for concat: the width of b */
-    CASES = LOW + WIDTH_LIMIT
+    MOVED = LOW + WIDTH_LIMIT,
+                      /* for shifts: which of them, k */
+    COPIED = MOVED + SHIFTS * WIDTH_LIMIT,
+                      /* for shifts: which of them, ones in the lowest k and in
+                         the highest k bits of D */
+    CASES = COPIED + SHIFTS * AMOUNTS * AMOUNTS
 };
 
 static uint8_t cases[CASES]
@@ -153,6 +158,18 @@ static unsigned highest(uint64_t bits)
     return bit;
 }
 
+/* How far a shift moves, and whether D has bits where zeros or copies of the
+   top bit come in. */
+static void note_shift(const struct record *record, uint64_t d)
+{
+    unsigned which = record->kind - KIND_LEFT_SHIFT;
+    unsigned k = (unsigned)record->k;
+
+    cases[MOVED + which * WIDTH_LIMIT + k] = 1;
+    cases[COPIED + (which * AMOUNTS + amount(d & width_mask(k), k)) * AMOUNTS
+          + amount(d >> (record->width - 1u - k) >> 1, k)] = 1;
+}
+
 /* The widths and places at which a record is at work; `d` is not 0. */
 static void note_places(const uint8_t *file, const struct record *record,
                         uint64_t d)
@@ -171,8 +188,14 @@ static void note_places(const uint8_t *file, const struct record *record,
     case KIND_MUL:
         cases[HIGHEST + highest(d)] = 1;
         break;
+    case KIND_LEFT_SHIFT:
+    case KIND_RIGHT_SHIFT:
+    case KIND_ARITHMETIC_SHIFT:
+        note_shift(record, d);
+        break;
     case KIND_EQUAL:
     case KIND_BELOW:
+    case KIND_SIGNED_BELOW:
         width = width_at(file, record->operand[0]);
         break;
     default:

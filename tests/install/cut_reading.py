@@ -6,7 +6,9 @@ import subprocess
 from typing import NamedTuple, Optional
 
 KINDS = ("input", "constant", "register", "output", "extract", "concat", "and",
-         "or", "xor", "mux", "add", "sub", "mul", "equal", "below")
+         "or", "xor", "mux", "add", "sub", "mul", "equal", "below",
+         "left-shift", "right-shift", "arithmetic-right-shift",
+         "signed-below")
 
 REASONS = {
     1: "the file is shorter than its header",

@@ -154,7 +154,7 @@ def memory(tests):
     ramp = tests.ramp
     for data in (*(path.read_bytes() for path in tests.examples), b"",
                  ramp[:7], header(0), ramp[:8], ramp[:-1],
-                 ramp[:-24] + b"\x0f" + ramp[-23:], FULL, FULL + b"\0"):
+                 ramp[:-24] + b"\x13" + ramp[-23:], FULL, FULL + b"\0"):
         tests.expect(f"{len(data)} bytes", data, [*VALGRIND, *tests.plain])
     tests.end("valgrind finds nothing")
 

@@ -108,11 +108,11 @@ def samples(build):
 
 def random_record(rng):
     """Often within the limits, so that the later rules are reached too."""
-    kind = rng.choice((0, 2, 3, rng.randrange(16), rng.randrange(256)))
+    kind = rng.choice((0, 2, 3, rng.randrange(20), rng.randrange(256)))
     width = rng.choice((1, 8, 8, 8, 64, rng.randrange(80)))
     operands = [rng.choice((0, 0, 0, rng.randrange(3))) for _ in range(3)]
     full = (1 << min(width, 64)) - 1
-    k = rng.choice((0, 0, 0, rng.getrandbits(64)))
+    k = rng.choice((0, 0, 0, rng.randrange(9), rng.getrandbits(64)))
     keep = rng.choice((full, full, full >> 1, rng.getrandbits(64)))
     return struct.pack(RECORD, kind, width, *operands, k, keep)
 
