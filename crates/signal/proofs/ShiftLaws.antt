@@ -7,15 +7,15 @@ use Prim.Native.Nat.{ℕ, zero, suc, _+_, _-_, _*_, _/_, _%_, _^_, _≤_, _<_, m
 use native.Mathlib.Nat.{add-zero, add-comm, one-mul, mod-lt, mul-mod-left, eq-zero-or-pos, max-zero}
 use native.Mathlib.Omega.{arith}
 use lib.Bits.{bitOr}
-use lib.Dec.{eqb, ltb, eqb·suc-zero, lit<}
+use lib.Dec.{ltb, eqb·suc-zero, lit<}
 use lib.Pow.{pow-pos, shl-shr, high, ones-lt, ones-split, high-ones}
 use borrow.Author.Tests.{lt-ltb, le-ltb}
 use Rattle.bits.specs.Masks.{bit, Agree}
-use Rattle.bits.specs.Words.{lowMask, cut, up, down}
+use Rattle.bits.specs.Words.{lowMask, cut, down}
 use Rattle.bits.proofs.Agreement.{agree-refl, agree-by-bits, agree-bit, agree-within, agree-cut, agree-concat}
 use Rattle.bits.proofs.Digits.{bit-or, bit-down, bit-cut, bit-up, bit-low, bit-beyond, bit-cases, one-below}
 use Rattle.bits.proofs.Order.{join-left, join-right}
-use Rattle.netlist.specs.declared.record.Kind.the-variants.{LeftShift, RightShift, ArithmeticRightShift}
+use Rattle.netlist.specs.declared.record.Kind.the-variants.{LeftShift, RightShift}
 use Rattle.signal.specs.Asks.{ifAny, upWithin, topIfCopied}
 use Rattle.signal.specs.Results.{topBit, emptied, arithmeticDown, resultOf}
 

@@ -1,6 +1,5 @@
 -- `demand::top_if_copied` meets its contract: the test for a bit at w - k or above is the definition's.
 -- Assumes nothing.
-use mathlib.Core.Path.{sym, _∙_}
 use native.Mathlib.Omega.{arith}
 use borrow.Author.Needs.{needs}
 use borrow.Author.Tests.{eq-eqb, ne-eqb}
