@@ -111,7 +111,7 @@ static void expect_ahead(uint8_t kind, uint8_t width, unsigned refusal,
 static void reading_ahead(void)
 {
     static const unsigned of_kind[KIND_COUNT] = {
-        0, 0, 0, 8, 0, 9, 0, 0, 0, 9, 0, 0, 0, 9, 9
+        0, 0, 0, 8, 0, 9, 0, 0, 0, 9, 0, 0, 0, 9, 9, 0, 0, 0, 9
     };
     unsigned byte;
 
@@ -158,10 +158,11 @@ static void every_operand(uint8_t kind, unsigned place)
 }
 
 /* Every single bit of an unused operand, of the keep word and of k, but for
-   the k of an extract, which the width rule limits. */
+   the k of an extract or a shift, which the width rule limits. */
 static void every_bit(uint8_t kind, unsigned width)
 {
     int is_state = kind == KIND_CONSTANT || kind == KIND_REGISTER;
+    int is_place = kind == KIND_EXTRACT || kind_shifts(kind);
     unsigned bit;
 
     reader_suited(&net, kind, width);
@@ -176,7 +177,7 @@ static void every_bit(uint8_t kind, unsigned width)
         expect_check(&net, bit < width ? 0 : 10, READER);
     }
     tested->keep = 0;
-    for (bit = 0; bit < 64 && kind != KIND_EXTRACT; bit++) {
+    for (bit = 0; bit < 64 && !is_place; bit++) {
         tested->k = (uint64_t)1 << bit;
         expect_check(&net, is_state && bit < width ? 0 : 10, READER);
     }
@@ -227,7 +228,7 @@ static void check_records(void)
     for (kind = 0; kind < KIND_COUNT; kind++)
         every_field((uint8_t)kind);
     test_end();
-    test_begin("6: every kind above 14");
+    test_begin("6: every kind above 18");
     reader_suited(&net, KIND_INPUT, 8);
     for (; kind < 256; kind++) {
         tested->kind = (uint8_t)kind;
@@ -241,12 +242,14 @@ static void check_records(void)
 
 #define OF_ONE_WIDTH \
     { KIND_AND, KIND_OR, KIND_XOR, KIND_ADD, KIND_SUB, KIND_MUL }
+#define SHIFTS { KIND_LEFT_SHIFT, KIND_RIGHT_SHIFT, KIND_ARITHMETIC_SHIFT }
+#define COMPARISONS { KIND_EQUAL, KIND_BELOW, KIND_SIGNED_BELOW }
 
 /* The widths of a record and of the three inputs that it may read, then its
    k, a letter each: x, y and z take every value from 1 to 64, 1 is 1, and *
-   is 64. The k is 0, or z - 1 (k), or 64 << (z - 1), which is 0 for the last
-   six (p), or 2^64 less z (n) or less p (m). Then how many must be accepted,
-   for each kind. */
+   is 64. The k is 0, or z - 1 (k), or x + z - 1 (o), or 64 << (z - 1), which
+   is 0 for the last six (p), or 2^64 less z (n) or less p (m). Then how many
+   must be accepted, for each kind. */
 static const struct grid {
     const char *name;
     const char *letters;
@@ -266,8 +269,14 @@ static const struct grid {
     { "9: mux: another b", "x1yx0", 64, { KIND_MUX } },
     { "9: mux: another c", "x1xy0", 64, { KIND_MUX } },
     { "9: mux: another width", "x1yy0", 64, { KIND_MUX } },
-    { "9: comparisons of any two", "1xy10", 64, { KIND_EQUAL, KIND_BELOW } },
-    { "9: comparisons of any width", "xyy10", 64, { KIND_EQUAL, KIND_BELOW } }
+    { "9: comparisons of any two", "1xy10", 64, COMPARISONS },
+    { "9: comparisons of any width", "xyy10", 64, COMPARISONS },
+    { "9: shifts of another a", "xy110", 64, SHIFTS },
+    { "9: shifts by any places", "xx11k", 64 * 65 / 2, SHIFTS },
+    { "9: shifts by w places and more", "xx11o", 0, SHIFTS },
+    { "9: shifts by places far beyond", "xx11p", 6 * 64, SHIFTS },
+    { "9: shifts by up to 2^64 - 1 places", "xx11n", 0, SHIFTS },
+    { "9: shifts by places far below 2^64", "xx11m", 6 * 64, SHIFTS }
 };
 
 static uint64_t value(char letter, const unsigned *xyz)
@@ -277,6 +286,8 @@ static uint64_t value(char letter, const unsigned *xyz)
     switch (letter) {
     case 'k':
         return z - 1;
+    case 'o':
+        return xyz[0] + z - 1;
     case 'p':
         return (uint64_t)64 << (z - 1);
     case 'n':
@@ -311,7 +322,7 @@ static unsigned long fits(uint8_t kind, const char *letters,
 static void try_grid(const struct grid *grid, uint8_t kind)
 {
     unsigned last_y = strchr(grid->letters, 'y') == NULL ? 1 : 64;
-    unsigned last_z = strpbrk(grid->letters, "zkpnm") == NULL ? 1 : 64;
+    unsigned last_z = strpbrk(grid->letters, "zkopnm") == NULL ? 1 : 64;
     unsigned long accepted = 0;
     unsigned xyz[3];
 

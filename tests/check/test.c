@@ -33,7 +33,21 @@ static const struct worked examples[] = {
     { "example: an add that reads itself is 8",
       DESIGN(INPUT(8), OF_TWO(ADD, 8, 1, 0)), { 8, 1 } },
     { "example: width 0 in record 0 goes before kind 200 in record 1",
-      DESIGN(INPUT(0), { 200, 8, { 0, 0, 0 }, 0, 0xff }), { 7, 0 } }
+      DESIGN(INPUT(0), { 200, 8, { 0, 0, 0 }, 0, 0xff }), { 7, 0 } },
+    { "a shift of width 8 by 7 passes, and one of width 64 by 63",
+      DESIGN(INPUT(8), ROW(LEFT_SHIFT, 8, 0, 0, 0, 7), INPUT(64),
+             ROW(ARITHMETIC_SHIFT, 64, 2, 0, 0, 63)), { 0 } },
+    { "a shift of width 8 by 8 is 9",
+      DESIGN(INPUT(8), ROW(RIGHT_SHIFT, 8, 0, 0, 0, 8)), { 9, 1 } },
+    { "a shift by 2^64 - 1 is 9",
+      DESIGN(INPUT(64), ROW(LEFT_SHIFT, 64, 0, 0, 0, 0xffffffffffffffffu)),
+      { 9, 1 } },
+    { "a shift that has a b is 10",
+      DESIGN(INPUT(8), INPUT(8), ROW(ARITHMETIC_SHIFT, 8, 0, 1, 0, 1)),
+      { 10, 2 } },
+    { "kind 18 passes, and 19 behind it is 6",
+      DESIGN(INPUT(8), OF_TWO(SIGNED_BELOW, 1, 0, 0),
+             { 19, 8, { 0, 0, 0 }, 0, 0xff }), { 6, 2 } }
 };
 
 void expect_bytes(const uint8_t *bytes, size_t length, uint64_t answer)

@@ -48,6 +48,40 @@ static void note_wires(const struct record *r, const struct record *a,
     met("outputs that are not 0", r->kind == KIND_OUTPUT && w->value != 0);
 }
 
+/* Shifts that lose bits, that copy the top bit, and by how many places. */
+static void note_shifts(const struct record *r, const struct words *w)
+{
+    int shifts = kind_shifts(r->kind) && w->result != 0;
+    int copies = r->kind == KIND_ARITHMETIC_SHIFT && r->k > 0 && w->a != 0;
+    int is_negative = w->a >> (r->width - 1) != 0;
+
+    met("left shifts that drop bits",
+        r->kind == KIND_LEFT_SHIFT && w->a > width_mask(r->width) >> r->k);
+    met("right shifts that drop bits",
+        r->kind == KIND_RIGHT_SHIFT && w->a >> r->k << r->k != w->a);
+    met("copies of a top bit that is 1", copies && is_negative);
+    met("copies of a top bit that is 0", copies && !is_negative);
+    met("shifts by no place", shifts && r->k == 0);
+    met("shifts by all places but one",
+        shifts && r->k > 0 && r->k + 1 == r->width);
+    met("shifts of 64 bits", shifts && r->k > 0 && r->width == 64);
+}
+
+/* A signed comparison of words whose top bit this is. */
+static void note_signs(const struct record *r, const struct words *w,
+                       uint64_t top)
+{
+    int compares = r->kind == KIND_SIGNED_BELOW && w->a != w->b;
+    int a = (w->a & top) != 0, b = (w->b & top) != 0;
+
+    met("signed: only a is negative", compares && a && !b);
+    met("signed: only b is negative", compares && !a && b);
+    met("signed: two negative ones", compares && a && b);
+    met("signed: none is negative", compares && !a && !b);
+    met("signed: equal operands",
+        r->kind == KIND_SIGNED_BELOW && w->a == w->b);
+}
+
 static void note_numbers(const struct record *r, const struct words *w)
 {
     uint64_t full = width_mask(r->width);
@@ -79,13 +113,16 @@ void clock_note_cycle(const struct netlist *net, const struct lent *before,
     for (i = 0; i < net->count; i++) {
         const struct record *record = &net->records[i];
         const uint32_t *operand = record->operand;
+        const struct record *a = &net->records[operand[0]];
         struct words words = { settled_result(before, after, i), values[i],
                                values[operand[0]], values[operand[1]],
                                values[operand[2]] };
 
         facts.many = 0;
-        note_wires(record, &net->records[operand[0]], &words);
+        note_wires(record, a, &words);
         note_numbers(record, &words);
+        note_shifts(record, &words);
+        note_signs(record, &words, (uint64_t)1 << (a->width - 1));
     }
 }
 

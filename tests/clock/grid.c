@@ -1,4 +1,4 @@
-/* Every kind at every width with words at the edges, extracts and concats.
+/* Every kind at every width with words at the edges, every place of bits.
    Assumes that each trial is judged by the model and by settled.c. */
 
 #include "../harness/designs.h"
@@ -54,9 +54,11 @@ static void make_all_kinds(struct rng *rng, unsigned width, enum keeps keeps)
     add(KIND_EXTRACT, cut, TWO, 0, rng_between(rng, 0, width - cut));
     if (width <= 32)
         add(KIND_CONCAT, 2 * width, ONE, TWO, 0);
-    for (kind = KIND_AND; kind <= KIND_BELOW; kind++)
-        if (kind != KIND_MUX)
-            add(kind, kind < KIND_EQUAL ? width : 1, ONE, TWO, 0);
+    for (kind = KIND_AND; kind < KIND_COUNT; kind++)
+        if (kind_shifts(kind))
+            add(kind, width, ONE, 0, rng_below(rng, width));
+        else if (kind != KIND_MUX)
+            add(kind, kind_compares(kind) ? 1 : width, ONE, TWO, 0);
     netlist_add(&net, KIND_MUX, (uint8_t)width, SELECTOR, ONE, TWO, 0);
     for (i = 0, count = net.count; i < count; i++)
         if (net.records[i].kind != KIND_OUTPUT)
@@ -130,6 +132,22 @@ static void try_place(unsigned a, unsigned w)
         try_words(&rng, 0, corner(&rng, a, i), 0);
 }
 
+/* All shifts of this width. */
+static void try_shifts(unsigned width)
+{
+    struct rng rng = rng_for(200, width);
+    unsigned k, i;
+    uint8_t kind;
+
+    begin_netlist(width);
+    for (kind = KIND_LEFT_SHIFT; kind_shifts(kind); kind++)
+        for (k = 0; k < width; k++)
+            add(kind, width, ONE, 0, k);
+    for (i = 0; i < 2 * CORNERS; i++)
+        try_words(&rng, 0, i < CORNERS ? corner(&rng, width, i)
+                                       : rng_word(&rng), 0);
+}
+
 void clock_grid(void)
 {
     unsigned a, w;
@@ -139,5 +157,9 @@ void clock_grid(void)
     for (a = 1; a <= 64; a++)
         for (w = 1; w <= 64; w++)
             try_place(a, w);
+    test_end();
+    test_begin("grid: every shift of every width by every count of places");
+    for (w = 1; w <= 64; w++)
+        try_shifts(w);
     test_end();
 }

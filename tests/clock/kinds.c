@@ -29,6 +29,8 @@ struct meaning {
     TWO(name, kind, w, w, w, keep, a, b, value)
 #define COMPARE(name, kind, of, keep, a, b, value) \
     TWO(name, kind, 1, of, of, keep, a, b, value)
+#define SHIFT(name, kind, w, k, keep, a, value) \
+    ONE(name, kind, w, w, k, keep, a, value)
 #define CHOOSE(name, w, keep, a, b, c, value) \
     { "meaning: mux " name, KIND_MUX, { w, 1, w, w }, 0, keep, { a, b, c }, \
       value }
@@ -97,7 +99,68 @@ static const struct meaning meanings[] = {
     COMPARE("below has no signs at 8", BELOW, 8, 1, 0x7f, 0x80, 1),
     COMPARE("below has no signs at 64", BELOW, 64, 1, ~TOP, TOP, 1),
     COMPARE("below: the most is not below 0", BELOW, 64, 1, ALL, 0, 0),
-    COMPARE("below, nothing kept", BELOW, 8, 0, 1, 2, 0)
+    COMPARE("below, nothing kept", BELOW, 8, 0, 1, 2, 0),
+
+    SHIFT("left shift by 3", LEFT_SHIFT, 8, 3, ALL, 0x35, 0xa8),
+    SHIFT("left shift by 0", LEFT_SHIFT, 8, 0, ALL, 0xa5, 0xa5),
+    SHIFT("left shift by 7 of 8", LEFT_SHIFT, 8, 7, ALL, 0x7f, 0x80),
+    SHIFT("left shift drops all", LEFT_SHIFT, 8, 7, ALL, 0xfe, 0),
+    SHIFT("left shift of 1 bit", LEFT_SHIFT, 1, 0, ALL, 1, 1),
+    SHIFT("left shift of 63 bits", LEFT_SHIFT, 63, 1, ALL, ~TOP, ~TOP - 1),
+    SHIFT("left shift of 64 by 0", LEFT_SHIFT, 64, 0, ALL, ALL, ALL),
+    SHIFT("left shift of 64 by 32", LEFT_SHIFT, 64, 32, ALL,
+          0x123456789abcdef0u, 0x9abcdef000000000u),
+    SHIFT("left shift of 64 by 63", LEFT_SHIFT, 64, 63, ALL, 3, TOP),
+    SHIFT("left shift, cut", LEFT_SHIFT, 8, 2, 0x3d, 0x1f, 0x3c),
+
+    SHIFT("right shift by 3", RIGHT_SHIFT, 8, 3, ALL, 0xb5, 0x16),
+    SHIFT("right shift by 0", RIGHT_SHIFT, 8, 0, ALL, 0xa5, 0xa5),
+    SHIFT("right shift by 7 of 8", RIGHT_SHIFT, 8, 7, ALL, 0x80, 1),
+    SHIFT("right shift drops all", RIGHT_SHIFT, 8, 7, ALL, 0x7f, 0),
+    SHIFT("right shift of 1 bit", RIGHT_SHIFT, 1, 0, ALL, 1, 1),
+    SHIFT("right shift of 64 by 0", RIGHT_SHIFT, 64, 0, ALL, TOP + 1, TOP + 1),
+    SHIFT("right shift of 64 by 4", RIGHT_SHIFT, 64, 4, ALL, TOP + 0x1f,
+          0x0800000000000001u),
+    SHIFT("right shift of 64 by 63", RIGHT_SHIFT, 64, 63, ALL, ALL, 1),
+    SHIFT("right shift, cut", RIGHT_SHIFT, 8, 2, 0x0f, 0xd4, 0x05),
+
+    SHIFT("-75 by 3 with its sign is -10", ARITHMETIC_SHIFT, 8, 3, ALL, 0xb5,
+          0xf6),
+    SHIFT("53 by 3 with its sign is 6", ARITHMETIC_SHIFT, 8, 3, ALL, 53, 6),
+    SHIFT("-1 by 4 with its sign is -1", ARITHMETIC_SHIFT, 8, 4, ALL, 0xff,
+          0xff),
+    SHIFT("-128 by 0 with its sign", ARITHMETIC_SHIFT, 8, 0, ALL, 0x80, 0x80),
+    SHIFT("-128 by 7 with its sign is -1", ARITHMETIC_SHIFT, 8, 7, ALL, 0x80,
+          0xff),
+    SHIFT("127 by 7 with its sign is 0", ARITHMETIC_SHIFT, 8, 7, ALL, 0x7f, 0),
+    SHIFT("a sign at bit 11", ARITHMETIC_SHIFT, 12, 1, ALL, 0x802, 0xc01),
+    SHIFT("a sign of 1 bit", ARITHMETIC_SHIFT, 1, 0, ALL, 1, 1),
+    SHIFT("a sign at bit 63, by 0", ARITHMETIC_SHIFT, 64, 0, ALL, TOP + 1,
+          TOP + 1),
+    SHIFT("a sign at bit 63, by 4", ARITHMETIC_SHIFT, 64, 4, ALL, TOP + 0x1f,
+          0xf800000000000001u),
+    SHIFT("a sign at bit 63, by 63", ARITHMETIC_SHIFT, 64, 63, ALL, TOP, ALL),
+    SHIFT("no sign at bit 63, by 63", ARITHMETIC_SHIFT, 64, 63, ALL, ~TOP, 0),
+    SHIFT("copies of a sign, cut", ARITHMETIC_SHIFT, 8, 4, 0x3c, 0x90, 0x38),
+
+    COMPARE("signed below", SIGNED_BELOW, 8, 1, 3, 4, 1),
+    COMPARE("signed below: equal ones are not", SIGNED_BELOW, 8, 1, 4, 4, 0),
+    COMPARE("signed below: a greater one is not", SIGNED_BELOW, 8, 1, 5, 4,
+            0),
+    COMPARE("-1 is below 0", SIGNED_BELOW, 8, 1, 0xff, 0, 1),
+    COMPARE("0 is not below -1", SIGNED_BELOW, 8, 1, 0, 0xff, 0),
+    COMPARE("-128 is below 127", SIGNED_BELOW, 8, 1, 0x80, 0x7f, 1),
+    COMPARE("127 is not below -128", SIGNED_BELOW, 8, 1, 0x7f, 0x80, 0),
+    COMPARE("-2 is below -1", SIGNED_BELOW, 8, 1, 0xfe, 0xff, 1),
+    COMPARE("-1 is not below -128", SIGNED_BELOW, 8, 1, 0xff, 0x80, 0),
+    COMPARE("-128 is not below itself", SIGNED_BELOW, 8, 1, 0x80, 0x80, 0),
+    COMPARE("-2^63 is below 0", SIGNED_BELOW, 64, 1, TOP, 0, 1),
+    COMPARE("-2^63 is below -1", SIGNED_BELOW, 64, 1, TOP, ALL, 1),
+    COMPARE("-1 is below 2^63 - 1", SIGNED_BELOW, 64, 1, ALL, ~TOP, 1),
+    COMPARE("2^63 - 1 is not below -2^63", SIGNED_BELOW, 64, 1, ~TOP, TOP, 0),
+    COMPARE("of 1 bit, 1 is below 0", SIGNED_BELOW, 1, 1, 1, 0, 1),
+    COMPARE("of 1 bit, 0 is not below 1", SIGNED_BELOW, 1, 1, 0, 1, 0),
+    COMPARE("signed below, nothing kept", SIGNED_BELOW, 8, 0, 1, 2, 0)
 };
 
 void clock_kinds(void)

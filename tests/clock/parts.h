@@ -13,6 +13,7 @@
 void clock_examples(void);
 void clock_kinds(void);
 void clock_grid(void);
+void clock_signed(uint64_t seed);
 void clock_range(uint64_t seed);
 void clock_runs(uint64_t seed);
 

@@ -10,6 +10,19 @@ static unsigned bit_of(uint64_t word, unsigned bit)
     return word >> bit & 1;
 }
 
+/* The bit of a that a shift brings to this place, or what fills it. */
+static unsigned moved_bit(const struct record *record, uint64_t a,
+                          unsigned bit)
+{
+    unsigned k = (unsigned)record->k, top = record->width - 1u;
+
+    if (record->kind == KIND_LEFT_SHIFT)
+        return bit < k ? 0 : bit_of(a, bit - k);
+    if (bit + k <= top)
+        return bit_of(a, bit + k);
+    return record->kind == KIND_RIGHT_SHIFT ? 0 : bit_of(a, top);
+}
+
 /* One bit of the result of a kind that moves or joins bits of a, b and c;
    `low` is the width of b. */
 static unsigned joined_bit(const struct record *record, const uint64_t *words,
@@ -32,8 +45,10 @@ static unsigned joined_bit(const struct record *record, const uint64_t *words,
         return bit_of(a, bit) || bit_of(b, bit);
     case KIND_XOR:
         return bit_of(a, bit) != bit_of(b, bit);
-    default:
+    case KIND_MUX:
         return bit_of(bit_of(a, 0) ? b : words[2], bit);
+    default:
+        return moved_bit(record, a, bit);
     }
 }
 
@@ -70,7 +85,18 @@ static uint64_t is_below(uint64_t a, uint64_t b)
     return 0;
 }
 
-static uint64_t worked_out(uint8_t kind, uint64_t a, uint64_t b)
+/* Of two with unlike top bits, the one that has it is negative. Else the bits
+   below count as they do without a sign. */
+static uint64_t is_signed_below(uint64_t a, uint64_t b, unsigned width)
+{
+    unsigned a_sign = bit_of(a, width - 1), b_sign = bit_of(b, width - 1);
+
+    return a_sign != b_sign ? a_sign : is_below(a, b);
+}
+
+/* The comparisons have operands of one width, which is that of b. */
+static uint64_t worked_out(uint8_t kind, uint64_t a, uint64_t b,
+                           unsigned width)
 {
     switch (kind) {
     case KIND_ADD:
@@ -81,6 +107,8 @@ static uint64_t worked_out(uint8_t kind, uint64_t a, uint64_t b)
         return product(a, b);
     case KIND_EQUAL:
         return (a ^ b) == 0;
+    case KIND_SIGNED_BELOW:
+        return is_signed_below(a, b, width);
     default:
         return is_below(a, b);
     }
@@ -99,9 +127,9 @@ uint64_t settled_result(const struct lent *before, const struct lent *after,
         words[i] = words_of(after, BOARD)[record.operand[i]];
     if (record.kind == KIND_INPUT || record.kind == KIND_REGISTER)
         return words_of(before, BOARD)[number];
-    if (record.kind >= KIND_ADD)
+    if (record.kind >= KIND_ADD && !kind_shifts(record.kind))
         return width_mask(record.width)
-             & worked_out(record.kind, words[0], words[1]);
+             & worked_out(record.kind, words[0], words[1], low);
     for (i = 0; i < record.width; i++)
         word |= (uint64_t)joined_bit(&record, words, low, i) << i;
     return word;

@@ -13,6 +13,7 @@ int main(int argc, char **argv)
     clock_examples();
     clock_kinds();
     clock_grid();
+    clock_signed(seed);
     clock_range(seed);
     clock_runs(seed);
     clock_coverage();

@@ -20,16 +20,12 @@ static void make_files(struct rng *rng)
         netlist_write(&case_nets[i], &files[i]);
 }
 
-/* One rule of one file broken, with lists of so many lengths: numbers 1 to 10
-   go before all that is said of lists. */
-static void try_rule(struct rng *rng, unsigned broken, unsigned rule)
+/* The files, one of which is broken, with lists of so many lengths: numbers 1
+   to 10 go before all that is said of lists. */
+static void expect_rule(struct rng *rng, unsigned rule, uint32_t record)
 {
-    uint32_t record;
     int i;
 
-    make_files(rng);
-    adds_write(&files[broken]);
-    record = adds_break(&files[broken], rule, ADDS_FIRST);
     for (i = 0; i < LENGTHS_EACH; i++) {
         struct lent lent = lend_files(tried, rng, files);
 
@@ -41,10 +37,53 @@ static void try_rule(struct rng *rng, unsigned broken, unsigned rule)
 
 void broken_rules(struct rng *rng, unsigned turn)
 {
-    unsigned broken;
+    unsigned broken, rule = turn + 1;
 
-    for (broken = 0; broken < files_of(tried); broken++)
-        try_rule(rng, broken, turn + 1);
+    for (broken = 0; broken < files_of(tried); broken++) {
+        make_files(rng);
+        adds_write(&files[broken]);
+        expect_rule(rng, rule, adds_break(&files[broken], rule, ADDS_FIRST));
+    }
+}
+
+/* Shifts behind an input of 8 bits and one of 9, and the lowest rule that each
+   breaks; they are tried as all three kinds. */
+static const struct {
+    unsigned rule;
+    struct record shift;
+} shifts[SHIFT_BREAKS] = {
+    { 8, ROW(LEFT_SHIFT, 8, 2, 0, 0, 3) },
+    { 8, ROW(LEFT_SHIFT, 8, 2, 0, 0, 8) },
+    { 9, ROW(LEFT_SHIFT, 8, 1, 0, 0, 3) },
+    { 9, ROW(LEFT_SHIFT, 9, 0, 0, 0, 3) },
+    { 9, ROW(LEFT_SHIFT, 8, 0, 0, 0, 8) },
+    { 9, ROW(LEFT_SHIFT, 8, 0, 0, 0, 9) },
+    { 9, ROW(LEFT_SHIFT, 8, 0, 0, 0, 64) },
+    { 9, ROW(LEFT_SHIFT, 8, 0, 0, 0, 0x100000003u) },
+    { 9, ROW(LEFT_SHIFT, 8, 0, 0, 0, 0x8000000000000000u) },
+    { 9, ROW(LEFT_SHIFT, 8, 0, 0, 0, 0xffffffffffffffffu) },
+    { 9, ROW(LEFT_SHIFT, 8, 0, 1, 0, 8) },
+    { 10, ROW(LEFT_SHIFT, 8, 0, 1, 0, 3) },
+    { 10, ROW(LEFT_SHIFT, 8, 0, 0, 1, 3) },
+    { 10, KEEPING(0x100, LEFT_SHIFT, 8, 0, 0, 0, 3) }
+};
+
+void broken_shifts(struct rng *rng, unsigned turn)
+{
+    static struct netlist net;
+    unsigned broken, i = turn / 3;
+
+    netlist_clear(&net);
+    netlist_input(&net, 8);
+    netlist_input(&net, 9);
+    netlist_add(&net, 0, 8, 0, 0, 0, 0);
+    net.records[2] = shifts[i].shift;
+    net.records[2].kind = (uint8_t)(KIND_LEFT_SHIFT + turn % 3);
+    for (broken = 0; broken < files_of(tried); broken++) {
+        make_files(rng);
+        netlist_write(&net, &files[broken]);
+        expect_rule(rng, shifts[i].rule, 2);
+    }
 }
 
 /* The refusal of the first file that is refused, or 0. */

@@ -72,8 +72,8 @@ static void set_field(struct rng *rng, struct netlist *net, uint32_t number,
     if (field < KIND)
         record->operand[field] = edge_operand(rng, net, number);
     else if (field == KIND)
-        record->kind = (uint8_t)rng_between(rng, KIND_COUNT,
-                                            rng_once_in(rng, 3) ? 15 : 255);
+        record->kind = rng_once_in(rng, 3)
+            ? KIND_COUNT : (uint8_t)rng_between(rng, KIND_COUNT, 255);
     else if (field == WIDTH)
         record->width = bad_width(rng, record->width);
     else if (field == K)
@@ -82,7 +82,18 @@ static void set_field(struct rng *rng, struct netlist *net, uint32_t number,
         record->keep = edge_word(rng, record->width);
 }
 
-/* Another width, another operand, or for an extract another place. */
+/* More places than a shift at this width may have, by one or by many. */
+static uint64_t bad_places(struct rng *rng, unsigned width)
+{
+    uint64_t places[] = { width, width + 1, WIDTH_LIMIT, (uint64_t)1 << 63,
+                          ~(uint64_t)0, 0 };
+
+    places[5] = rng_between(rng, width, 255);
+    return places[rng_below(rng, sizeof places / sizeof *places)];
+}
+
+/* Another width, another operand, or for an extract or a shift another
+   place. */
 static void break_width_rule(struct rng *rng, struct record *record,
                              uint32_t number)
 {
@@ -90,6 +101,8 @@ static void break_width_rule(struct rng *rng, struct record *record,
 
     if (record->kind == KIND_EXTRACT && rng_once_in(rng, 3))
         record->k += rng_between(rng, 1, WIDTH_LIMIT);
+    else if (kind_shifts(record->kind) && rng_once_in(rng, 3))
+        record->k = bad_places(rng, record->width);
     else if (number > 0 && rng_once_in(rng, 3))
         record->operand[place] = rng_below(rng, number);
     else if (rng_once_in(rng, 2))
@@ -148,10 +161,15 @@ void damage_order(struct rng *rng, struct netlist *net)
 
 void damage_far_k(struct rng *rng, struct netlist *net)
 {
-    struct record *record = &net->records[find(rng, net, KIND_EXTRACT,
-                                               KIND_EXTRACT)];
+    int is_shift = rng_once_in(rng, 2);
+    uint32_t number = is_shift
+        ? find(rng, net, KIND_LEFT_SHIFT, KIND_ARITHMETIC_SHIFT)
+        : find(rng, net, KIND_EXTRACT, KIND_EXTRACT);
+    struct record *record = &net->records[number];
 
-    if (rng_once_in(rng, 2))
+    if (is_shift && rng_once_in(rng, 2))
+        record->k = bad_places(rng, record->width);
+    else if (rng_once_in(rng, 2))
         record->k = 0 - (uint64_t)record->width + rng_below(rng, 3) - 1;
     else
         record->k = ~(uint64_t)0 - rng_below(rng, 130);

@@ -18,7 +18,8 @@ void damage_header(struct rng *rng, struct file *file, unsigned refusal);
 
 /* Sets one field of one record to a value at the edge of some rule, changes a
    kind to another valid one, copies a record over another one or swaps two,
-   or sets the k of a record, an extract if there is one, near 2^64. */
+   or sets the k of a record, an extract or a shift if there is one, near 2^64
+   or beyond the width. */
 damage_records damage_edge, damage_kind, damage_order, damage_far_k;
 
 /* Makes a register read a later record and breaks that record's kind or

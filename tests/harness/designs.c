@@ -24,17 +24,24 @@ struct widths {
 
 const struct style styles[STYLES + 1] = {
     /* input, constant, register, output, extract, concat, and, or, xor, mux,
-       add, sub, mul, equal, below; opening, closing, recent, keep */
-    { { 2, 1, 6, 1, 2, 2, 1, 1, 1, 2, 1, 1, 1, 1, 1 }, 0, 0, 0, KEEP_MOSTLY },
-    { { 1, 1, 0, 0, 3, 3, 2, 2, 2, 3, 2, 2, 1, 1, 1 }, 12, 8, 128,
+       add, sub, mul, equal, below, left shift, right shift, arithmetic right
+       shift, signed below; opening, closing, recent, keep */
+    { { 2, 1, 6, 1, 2, 2, 1, 1, 1, 2, 1, 1, 1, 1, 1, 1, 1, 1, 1 }, 0, 0, 0,
       KEEP_MOSTLY },
-    { { 1, 0, 4, 0, 5, 5, 0, 0, 0, 0, 0, 0, 0, 0, 0 }, 4, 1, 0, KEEP_ANY },
-    { { 1, 1, 3, 1, 3, 1, 0, 0, 1, 0, 4, 4, 4, 0, 0 }, 2, 1, 0, KEEP_HOLES },
-    { { 1, 1, 2, 1, 2, 3, 0, 0, 1, 6, 1, 0, 0, 3, 3 }, 4, 1, 0, KEEP_ANY },
-    { { 1, 1, 1, 0, 2, 2, 2, 2, 2, 2, 2, 2, 2, 1, 1 }, 1, 1, 4,
+    { { 1, 1, 0, 0, 3, 3, 2, 2, 2, 3, 2, 2, 1, 1, 1, 1, 1, 1, 1 }, 12, 8, 128,
       KEEP_MOSTLY },
-    { { 1, 1, 3, 0, 2, 2, 1, 1, 1, 1, 1, 1, 1, 1, 1 }, 0, 0, 0, KEEP_ANY },
-    { { 1, 1, 1, 1, 1, 1, 1, 1, 1, 1, 1, 1, 1, 1, 1 }, 0, 0, 0, KEEP_ANY }
+    { { 1, 0, 4, 0, 5, 5, 0, 0, 0, 0, 0, 0, 0, 0, 0, 1, 1, 2, 0 }, 4, 1, 0,
+      KEEP_ANY },
+    { { 1, 1, 3, 1, 3, 1, 0, 0, 1, 0, 4, 4, 4, 0, 0, 1, 1, 1, 0 }, 2, 1, 0,
+      KEEP_HOLES },
+    { { 1, 1, 2, 1, 2, 3, 0, 0, 1, 6, 1, 0, 0, 2, 2, 0, 0, 1, 2 }, 4, 1, 0,
+      KEEP_ANY },
+    { { 1, 1, 1, 0, 2, 2, 2, 2, 2, 2, 2, 2, 2, 1, 1, 1, 1, 1, 1 }, 1, 1, 4,
+      KEEP_MOSTLY },
+    { { 1, 1, 3, 0, 2, 2, 1, 1, 1, 1, 1, 1, 1, 1, 1, 1, 1, 1, 1 }, 0, 0, 0,
+      KEEP_ANY },
+    { { 1, 1, 1, 1, 1, 1, 1, 1, 1, 1, 1, 1, 1, 1, 1, 1, 1, 1, 1 }, 0, 0, 0,
+      KEEP_ANY }
 };
 
 uint32_t design_count(struct rng *rng, uint32_t least)
@@ -108,6 +115,19 @@ static void make_extract(struct rng *rng, struct netlist *net)
     netlist_add(net, KIND_EXTRACT, (uint8_t)width, a, 0, 0, k);
 }
 
+/* By any places that the width allows; no place and all but one more often
+   than others. */
+static void make_shift(struct rng *rng, struct netlist *net, uint8_t kind)
+{
+    uint32_t a = readable_of(rng, ANY);
+    uint8_t width = net->records[a].width;
+    uint32_t k = rng_below(rng, width);
+
+    if (rng_once_in(rng, 4))
+        k = rng_once_in(rng, 2) ? 0 : width - 1u;
+    netlist_add(net, kind, width, a, 0, 0, k);
+}
+
 /* False when no two narrow records are found in a few tries. */
 static int make_concat(struct rng *rng, struct netlist *net)
 {
@@ -147,7 +167,7 @@ static void make_pair(struct rng *rng, struct netlist *net, uint8_t kind)
     uint8_t width = net->records[a].width;
     uint32_t b = readable_of(rng, width);
 
-    if (kind == KIND_EQUAL || kind == KIND_BELOW)
+    if (kind_compares(kind))
         width = 1;
     netlist_add(net, kind, width, a, b, 0, 0);
 }
@@ -171,6 +191,11 @@ static int make_reader(struct rng *rng, struct netlist *net, uint8_t kind)
         return make_concat(rng, net);
     case KIND_MUX:
         return make_mux(rng, net);
+    case KIND_LEFT_SHIFT:
+    case KIND_RIGHT_SHIFT:
+    case KIND_ARITHMETIC_SHIFT:
+        make_shift(rng, net, kind);
+        return 1;
     default:
         make_pair(rng, net, kind);
         return 1;

@@ -4,7 +4,7 @@
 #ifndef FACTS_H
 #define FACTS_H
 
-enum { MOST_FACTS = 40 };
+enum { MOST_FACTS = 64 };
 
 struct facts {
     unsigned many; /* noted in this round; 0 begins another one */

@@ -53,7 +53,7 @@ unsigned least_width(uint8_t kind)
 
 unsigned most_width(uint8_t kind)
 {
-    return kind == KIND_EQUAL || kind == KIND_BELOW ? 1 : 64;
+    return kind_compares(kind) ? 1 : 64;
 }
 
 void reader_make(struct netlist *net, uint8_t kind, const unsigned *widths,
@@ -74,10 +74,12 @@ void reader_suited(struct netlist *net, uint8_t kind, unsigned width)
     unsigned widths[4] = { width, width, width, width };
     uint64_t k = kind_uses(kind, 'k') ? width_mask(width) : 0;
 
-    if (kind == KIND_EXTRACT || most_width(kind) == 1)
+    if (kind == KIND_EXTRACT || kind_compares(kind))
         widths[1] = widths[2] = 64;
     if (kind == KIND_EXTRACT)
         k = 64 - (uint64_t)width;
+    if (kind_shifts(kind))
+        k = width / 2;
     if (kind == KIND_CONCAT)
         widths[2] = width - 1;
     if (kind == KIND_CONCAT || kind == KIND_MUX)

@@ -9,7 +9,7 @@
 /* The letters of the table in 01. */
 static const char *const kind_fields[KIND_COUNT] = {
     "", "k", "ak", "a", "ak", "ab", "ab", "ab", "ab", "abc", "ab", "ab", "ab",
-    "ab", "ab"
+    "ab", "ab", "ak", "ak", "ak", "ab"
 };
 
 int kind_uses(uint8_t kind, char field)
@@ -21,6 +21,17 @@ unsigned kind_operands(uint8_t kind)
 {
     return (unsigned)(kind_uses(kind, 'a') + kind_uses(kind, 'b')
                       + kind_uses(kind, 'c'));
+}
+
+int kind_shifts(uint8_t kind)
+{
+    return kind >= KIND_LEFT_SHIFT && kind <= KIND_ARITHMETIC_SHIFT;
+}
+
+int kind_compares(uint8_t kind)
+{
+    return kind == KIND_EQUAL || kind == KIND_BELOW
+        || kind == KIND_SIGNED_BELOW;
 }
 
 void netlist_clear(struct netlist *net)

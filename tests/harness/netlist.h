@@ -37,6 +37,10 @@ int kind_uses(uint8_t kind, char field);
 /* The count of operands that the kind uses: a, then b, then c. */
 unsigned kind_operands(uint8_t kind);
 
+/* Whether the kind moves a by k places, or compares a and b. */
+int kind_shifts(uint8_t kind);
+int kind_compares(uint8_t kind);
+
 void netlist_clear(struct netlist *net);
 
 /* Append a record with a full keep word and give its number. */

@@ -51,6 +51,7 @@ static const struct {
     { "each length wrong, and each two", wrong_lengths, 13, LISTS_TOO },
     { "lengths that are right but for 2^32 more", huge_lengths, 3, NONE },
     { "each rule broken, with lists of any length", broken_rules, 10, NONE },
+    { "each rule broken in a shift", broken_shifts, 3 * SHIFT_BREAKS, NONE },
     { "damaged files of all families", damaged_files, 37500, NONE },
     { "valid designs of all styles", valid_designs, 18000, NONE },
     { "designs of 0, 1, 2 and 2,048 records", valid_sizes, 1611, NONE },

@@ -18,12 +18,43 @@ static void ask(uint32_t number, unsigned lowest, unsigned highest)
     asked[number] |= bits;
 }
 
+/* What this bit of the D of a concat asks. */
+static void ask_for_part(const uint8_t *file, const struct record *record,
+                         unsigned bit)
+{
+    unsigned low = width_at(file, record->operand[1]);
+
+    if (bit < low)
+        ask(record->operand[1], bit, bit);
+    else
+        ask(record->operand[0], bit - low, bit - low);
+}
+
+/* What this bit of the D of an extract or a shift asks: the bit that is moved
+   to its place, if there is one, and the top bit where copies of it stand. */
+static void ask_for_moved(const uint8_t *file, const struct record *record,
+                          unsigned bit)
+{
+    uint32_t a = record->operand[0];
+    unsigned w = width_at(file, a), k = (unsigned)record->k;
+
+    if (record->kind == KIND_LEFT_SHIFT) {
+        if (bit >= k)
+            ask(a, bit - k, bit - k);
+        return;
+    }
+    if (bit + k < w)
+        ask(a, bit + k, bit + k);
+    if (record->kind == KIND_ARITHMETIC_SHIFT && bit >= w - k)
+        ask(a, w - 1, w - 1);
+}
+
 /* What this bit of D asks of the operands. */
 static void ask_for_bit(const uint8_t *file, const struct record *record,
                         unsigned bit)
 {
     uint32_t a = record->operand[0], b = record->operand[1];
-    unsigned lowest = bit, highest = bit, low;
+    unsigned lowest = bit, highest = bit;
 
     switch (record->kind) {
     case KIND_INPUT:
@@ -33,21 +64,21 @@ static void ask_for_bit(const uint8_t *file, const struct record *record,
     case KIND_OUTPUT:
         ask(a, bit, bit);
         return;
-    case KIND_EXTRACT:
-        ask(a, bit + (unsigned)record->k, bit + (unsigned)record->k);
-        return;
     case KIND_CONCAT:
-        low = width_at(file, b);
-        if (bit < low)
-            ask(b, bit, bit);
-        else
-            ask(a, bit - low, bit - low);
+        ask_for_part(file, record, bit);
+        return;
+    case KIND_EXTRACT:
+    case KIND_LEFT_SHIFT:
+    case KIND_RIGHT_SHIFT:
+    case KIND_ARITHMETIC_SHIFT:
+        ask_for_moved(file, record, bit);
         return;
     case KIND_MUX:
         a = record->operand[2];
         break;
     case KIND_EQUAL:
     case KIND_BELOW:
+    case KIND_SIGNED_BELOW:
         highest = width_at(file, a) - 1u;
         /* Fall through. */
     case KIND_ADD:

@@ -11,10 +11,29 @@
 #include "../harness/trial.h"
 #include "parts.h"
 
-enum { DESIGNS = 4800 };
+enum { DESIGNS = 5200 };
 
 /* What was met in records of each kind, in sums of any kind, and in designs. */
 static struct facts of_kind[KIND_COUNT], of_sums, of_designs;
+
+/* How the D of a shift asks: some of its bits lie in places that are filled, in
+   an arithmetic one by copies of the top bit. */
+static void note_shift(struct facts *facts, const struct record *record,
+                       uint64_t d)
+{
+    uint64_t full = width_mask(record->width), k = record->k;
+    uint64_t filled = record->kind == KIND_LEFT_SHIFT
+        ? full & ~(full << k) : full & ~(full >> k);
+
+    fact(facts, "moves D", d != 0 && k > 0);
+    fact(facts, "moves nothing", d != 0 && k == 0);
+    fact(facts, "D is filled in whole", d != 0 && (d & ~filled) == 0);
+    fact(facts, "D is filled in part",
+         (d & filled) != 0 && (d & ~filled) != 0);
+    if (record->kind == KIND_ARITHMETIC_SHIFT)
+        fact(facts, "only copies ask for the top bit",
+             (d & filled) != 0 && (d << k >> (record->width - 1) & 1) == 0);
+}
 
 /* How its D asks, for kinds that ask in several ways. */
 static void note_asking(struct facts *facts, const struct netlist *net,
@@ -39,6 +58,8 @@ static void note_asking(struct facts *facts, const struct netlist *net,
         fact(facts, "asks the high part", d != 0 && (d & low) == 0);
         fact(facts, "asks the low part", d != 0 && (d & ~low) == 0);
     }
+    if (kind_shifts(record->kind))
+        note_shift(facts, record, d);
     if (record->kind >= KIND_ADD && record->kind <= KIND_MUL) {
         of_sums.many = 0;
         fact(&of_sums, "D has gaps", (d & (d + 1)) != 0);
@@ -57,13 +78,13 @@ static void note(const struct netlist *net, uint32_t number, uint64_t mask)
     facts->many = 0;
     fact(facts, "D is the keep word and not 0", d == keep && d != 0);
     fact(facts, "the keep word is 0, the mask not", keep == 0 && mask != 0);
-    if (record->kind < KIND_EQUAL)
+    if (!kind_compares(record->kind))
         fact(facts, "D has some of all bits", is_partly);
     if (record->kind == KIND_OUTPUT)
         return;
     fact(facts, "the keep word is cut to 0", keep != 0 && d == 0);
     fact(facts, "D is the mask, not the keep word", d == mask && d != keep);
-    if (record->kind < KIND_EQUAL)
+    if (!kind_compares(record->kind))
         fact(facts, "D is neither", d != mask && d != keep);
     note_asking(facts, net, number, d);
 }

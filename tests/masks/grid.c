@@ -81,7 +81,20 @@ static void try_reader(uint8_t kind, unsigned w, unsigned a, unsigned b,
              one_bit(low % w) | one_bit(w - 1));
 }
 
-/* Extracts of all widths at all places, concats of all two widths, and
+/* All shifts of this width. The low bits, of which `try_reader` asks for the
+   next one too, are those that a shift fills or that it does not. */
+static void every_shift(unsigned width)
+{
+    unsigned k;
+
+    for (k = 0; k < width; k++) {
+        try_reader(KIND_LEFT_SHIFT, width, width, 1, k, k);
+        try_reader(KIND_RIGHT_SHIFT, width, width, 1, k, width - k);
+        try_reader(KIND_ARITHMETIC_SHIFT, width, width, 1, k, width - k);
+    }
+}
+
+/* Extracts of all widths at all places, concats of all two widths, shifts and
    comparisons of all widths. */
 static void every_place(void)
 {
@@ -96,6 +109,8 @@ static void every_place(void)
             try_reader(KIND_CONCAT, a + b, a, b, 0, b);
         try_reader(KIND_EQUAL, 1, a, a, 0, 0);
         try_reader(KIND_BELOW, 1, a, a, 0, 0);
+        try_reader(KIND_SIGNED_BELOW, 1, a, a, 0, 0);
+        every_shift(a);
     }
 }
 
@@ -112,7 +127,8 @@ void masks_grid(void)
         }
     every_pair();
     test_end();
-    test_begin("care rule: extract, concat and comparisons at every place");
+    test_begin("care rule: extract, concat, shifts and comparisons at every"
+               " place");
     every_place();
     test_end();
 }

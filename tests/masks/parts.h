@@ -7,6 +7,7 @@
 #include <stdint.h>
 
 void masks_grid(void);
+void masks_moved(void);
 void masks_feedback(void);
 void masks_drawn(uint64_t seed);
 

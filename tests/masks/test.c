@@ -61,6 +61,42 @@ static const struct worked worked[] = {
       DESIGN(INPUT(8), INPUT(8), OF_TWO(BELOW, 1, 0, 1), INPUT(1),
              OF_TWO(CONCAT, 2, 2, 3), OUTPUT(2, 4, 1)),
       { 0, 0, 0, 1, 1, 3 } },
+    /* Of 3c the left shift by 3 has 38 from below, which is 7. */
+    { "a left shift asks for nothing in the places that it fills",
+      DESIGN(INPUT(8), ROW(LEFT_SHIFT, 8, 0, 0, 0, 3), OUTPUT(8, 1, 0x3c),
+             ROW(LEFT_SHIFT, 8, 0, 0, 0, 3), OUTPUT(8, 3, 7)),
+      { 7, 0x3c, 0xff, 7, 0xff } },
+    /* Of 2c the right shift by 3 has 0c from above, which is 60; 60 of the
+       other one is filled. */
+    { "a right shift asks for nothing in the places that it fills",
+      DESIGN(INPUT(8), ROW(RIGHT_SHIFT, 8, 0, 0, 0, 3), OUTPUT(8, 1, 0x2c),
+             INPUT(8), ROW(RIGHT_SHIFT, 8, 3, 0, 0, 3), OUTPUT(8, 4, 0x60)),
+      { 0x60, 0x2c, 0xff, 0, 0x60, 0xff } },
+    /* The same bits: 60 of the other one are copies of the top bit. */
+    { "a shift with copies of the top bit asks for it in their places",
+      DESIGN(INPUT(8), ROW(ARITHMETIC_SHIFT, 8, 0, 0, 0, 3),
+             OUTPUT(8, 1, 0x2c), INPUT(8),
+             ROW(ARITHMETIC_SHIFT, 8, 3, 0, 0, 3), OUTPUT(8, 4, 0x60),
+             INPUT(8), ROW(ARITHMETIC_SHIFT, 8, 6, 0, 0, 3),
+             OUTPUT(8, 7, 0x0c)),
+      { 0xe0, 0x2c, 0xff, 0x80, 0x60, 0xff, 0x60, 0x0c, 0xff } },
+    /* An eighth of an angle of 12 bits does without its lowest three, and a
+       comparison needs all. */
+    { "a signed comparison asks for all bits of an angle, a shift for some",
+      DESIGN(INPUT(12), ROW(ARITHMETIC_SHIFT, 12, 0, 0, 0, 3),
+             OUTPUT(12, 1, 0xfff), INPUT(12), CONSTANT(12, 0x800),
+             OF_TWO(SIGNED_BELOW, 1, 3, 4), OUTPUT(1, 5, 1)),
+      { 0xff8, 0xfff, 0xfff, 0xfff, 0xfff, 1, 1 } },
+    /* Bit 0 goes up by one place in each cycle and is read at bit 5. */
+    { "a register that is shifted left by itself",
+      DESIGN(REGISTER(8, 1, 1), ROW(LEFT_SHIFT, 8, 0, 0, 0, 1),
+             OUTPUT(8, 0, 0x20)),
+      { 0x3f, 0x3f, 0xff } },
+    /* Bit 2 comes from bit 5, which comes from the top bit. */
+    { "a register that is shifted right by itself and copies its top bit",
+      DESIGN(REGISTER(8, 1, 0x80), ROW(ARITHMETIC_SHIFT, 8, 0, 0, 0, 3),
+             OUTPUT(8, 0, 4)),
+      { 0xa4, 0xa4, 0xff } },
     /* It asks itself for what it has already. */
     { "a register that reads itself and that nobody else reads",
       DESIGN(REGISTER(8, 0, 0)), { 0 } },
@@ -104,6 +140,7 @@ int main(int argc, char **argv)
     try_worked(&masks_operation, worked, sizeof worked / sizeof *worked,
                expect_masks);
     masks_grid();
+    masks_moved();
     masks_feedback();
     masks_drawn(seed);
     printf("%lu files tried\n", trials_made());

@@ -15,6 +15,9 @@ static unsigned fields_used(uint8_t kind)
         return USES_K;
     case KIND_REGISTER:
     case KIND_EXTRACT:
+    case KIND_LEFT_SHIFT:
+    case KIND_RIGHT_SHIFT:
+    case KIND_ARITHMETIC_SHIFT:
         return USES_A | USES_K;
     case KIND_OUTPUT:
         return USES_A;
@@ -67,8 +70,7 @@ static int operands_fit(const uint8_t *file, const struct record *record,
 static int widths_fit(const uint8_t *file, const struct record *record)
 {
     const uint32_t *operand = record->operand;
-    unsigned w = record->width;
-    unsigned a, b;
+    unsigned w = record->width, a, b;
 
     switch (record->kind) {
     case KIND_INPUT:
@@ -89,8 +91,13 @@ static int widths_fit(const uint8_t *file, const struct record *record)
         return width_at(file, operand[0]) == 1
             && width_at(file, operand[1]) == w
             && width_at(file, operand[2]) == w;
+    case KIND_LEFT_SHIFT:
+    case KIND_RIGHT_SHIFT:
+    case KIND_ARITHMETIC_SHIFT:
+        return width_at(file, operand[0]) == w && record->k < w;
     case KIND_EQUAL:
     case KIND_BELOW:
+    case KIND_SIGNED_BELOW:
         a = width_at(file, operand[0]);
         b = width_at(file, operand[1]);
         return a == b && w == 1;

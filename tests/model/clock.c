@@ -4,9 +4,19 @@
 #include "model.h"
 #include "record.h"
 
+/* In two's complement the words with a top bit are the negative numbers. With
+   that bit flipped they stand below the others, and all in their order. */
+static int signed_below(uint64_t a, uint64_t b, unsigned width)
+{
+    uint64_t top = (uint64_t)1 << (width - 1);
+
+    return (a ^ top) < (b ^ top);
+}
+
 /* Sums, differences and products modulo 2^64, of which the width takes the
-   low bits, and the comparisons. */
-static uint64_t worked_out(uint8_t kind, uint64_t a, uint64_t b)
+   low bits, and the comparisons; `width` is that of a. */
+static uint64_t worked_out(uint8_t kind, uint64_t a, uint64_t b,
+                           unsigned width)
 {
     switch (kind) {
     case KIND_ADD:
@@ -17,9 +27,26 @@ static uint64_t worked_out(uint8_t kind, uint64_t a, uint64_t b)
         return a * b;
     case KIND_EQUAL:
         return a == b;
+    case KIND_SIGNED_BELOW:
+        return signed_below(a, b, width);
     default:
         return a < b;
     }
+}
+
+/* a moved by k places, which are fewer than its width. The arithmetic shift
+   fills the places that become free with copies of the top bit. */
+static uint64_t shifted(const struct record *record, uint64_t a)
+{
+    uint64_t full = width_mask(record->width);
+    uint64_t free_places = full & ~(full >> record->k);
+    int is_negative = a >> (record->width - 1) & 1;
+
+    if (record->kind == KIND_LEFT_SHIFT)
+        return (a << record->k) & full;
+    if (record->kind == KIND_ARITHMETIC_SHIFT && is_negative)
+        return a >> record->k | free_places;
+    return a >> record->k;
 }
 
 /* The record's result, before its keep word clears bits. The board holds the
@@ -54,8 +81,13 @@ static uint64_t result(const uint8_t *file, uint32_t number,
         return a ^ b;
     case KIND_MUX:
         return a == 1 ? b : c;
+    case KIND_LEFT_SHIFT:
+    case KIND_RIGHT_SHIFT:
+    case KIND_ARITHMETIC_SHIFT:
+        return shifted(&record, a);
     default:
-        return worked_out(record.kind, a, b) & full;
+        return worked_out(record.kind, a, b,
+                          width_at(file, record.operand[0])) & full;
     }
 }
 

@@ -58,6 +58,45 @@ static uint64_t filled_below(uint64_t bits)
     return bits;
 }
 
+/* What a shift asks of a. The arithmetic shift has a's top bit in every place
+   from w - k up. */
+static uint64_t asked_by_shift(const struct record *record, uint64_t d)
+{
+    uint64_t full = width_mask(record->width), k = record->k;
+    uint64_t top = (uint64_t)1 << (record->width - 1);
+    uint64_t copies = full & ~(full >> k);
+
+    if (record->kind == KIND_LEFT_SHIFT)
+        return d >> k;
+    if (record->kind == KIND_ARITHMETIC_SHIFT && (d & copies) != 0)
+        return ((d << k) & full) | top;
+    return (d << k) & full;
+}
+
+/* The care rules of the kinds that ask a and b for the same. */
+static void ask_alike(struct work *work, const uint8_t *file,
+                      const struct record *record, uint64_t d)
+{
+    const uint32_t *operand = record->operand;
+
+    switch (record->kind) {
+    case KIND_AND:
+    case KIND_OR:
+    case KIND_XOR:
+        ask_both(work, operand, d);
+        break;
+    case KIND_ADD:
+    case KIND_SUB:
+    case KIND_MUL:
+        ask_both(work, operand, filled_below(d));
+        break;
+    default:
+        if (d != 0)
+            ask_both(work, operand, width_mask(width_at(file, operand[0])));
+        break;
+    }
+}
+
 /* The care rules: what a record asks of its operands, given its D. */
 static void ask_operands(struct work *work, const uint8_t *file,
                          const struct record *record, uint64_t d)
@@ -78,24 +117,18 @@ static void ask_operands(struct work *work, const uint8_t *file,
     case KIND_CONCAT:
         ask_parts(work, operand, width_at(file, operand[1]), d);
         break;
-    case KIND_AND:
-    case KIND_OR:
-    case KIND_XOR:
-        ask_both(work, operand, d);
-        break;
     case KIND_MUX:
         ask(work, operand[0], 1);
         ask(work, operand[1], d);
         ask(work, operand[2], d);
         break;
-    case KIND_ADD:
-    case KIND_SUB:
-    case KIND_MUL:
-        ask_both(work, operand, filled_below(d));
+    case KIND_LEFT_SHIFT:
+    case KIND_RIGHT_SHIFT:
+    case KIND_ARITHMETIC_SHIFT:
+        ask(work, operand[0], asked_by_shift(record, d));
         break;
     default:
-        if (d != 0)
-            ask_both(work, operand, width_mask(width_at(file, operand[0])));
+        ask_alike(work, file, record, d);
         break;
     }
 }

@@ -121,6 +121,32 @@ static void starts(void)
     }
 }
 
+/* An eighth of an angle, for which its lowest three bits do not count: -75 and
+   -80 give -10, which is below -9, and 53 and 55 give 6. */
+static void signed_angle(void)
+{
+    static const uint64_t words[4] = { 0xb5, 0xb0, 0x35, 0x37 };
+    unsigned i;
+
+    if (masked.masks[0] != 0xf8)
+        test_fail();
+    for (i = 0; i < 4; i++) {
+        cycle(&words[i], 2, i < 2 ? 0xf6 : 6);
+        cycle(&words[i], 5, i < 2);
+    }
+}
+
+static void make_signed_angle(struct netlist *net)
+{
+    netlist_clear(net);
+    netlist_input(net, 8);
+    netlist_add(net, KIND_ARITHMETIC_SHIFT, 8, 0, 0, 0, 3);
+    netlist_output(net, 1, 0xff);
+    netlist_add(net, KIND_CONSTANT, 8, 0, 0, 0, 0xf7);
+    netlist_add(net, KIND_SIGNED_BELOW, 1, 1, 3, 0, 0);
+    netlist_output(net, 4, 1);
+}
+
 void runs_examples(void)
 {
     struct netlist *net = &masked.net;
@@ -143,4 +169,7 @@ void runs_examples(void)
     net->records[1].k = 4;
     each_sort("runs: a state too wide before the first start, later starts",
               starts);
+    make_signed_angle(net);
+    each_sort("runs: a signed angle, words that differ in bits shifted out",
+              signed_angle);
 }

@@ -37,6 +37,11 @@ static const struct worked worked[] = {
       DESIGN(KEEPING(0xf8, INPUT, 8, 0, 0, 0, 0),
              KEEPING(0x2f, REGISTER, 8, 0, 0, 0, 0x5a), OUTPUT(8, 1, 0x3c)),
       { 0x28, 0x2c, 0x3c } },
+    /* The shift keeps c6 of f6; 6 is asked for at 60, and c0 are copies. */
+    { "a shift keeps some copies of the top bit, its operand that bit",
+      DESIGN(INPUT(8), KEEPING(0xcf, ARITHMETIC_SHIFT, 8, 0, 0, 0, 4),
+             OUTPUT(8, 1, 0xf6)),
+      { 0xe0, 0xc6, 0xf6 } },
     { "a sum keeps one bit, its operands all bits below",
       DESIGN(INPUT(8), INPUT(8), OF_TWO(ADD, 8, 0, 1), OUTPUT(8, 2, 8)),
       { 0x0f, 0x0f, 8, 8 } }
@@ -66,7 +71,7 @@ static void demand_left(int done, const uint8_t *list,
    writer shows. */
 static void one_by_one(void)
 {
-    static const uint8_t faults[3][2] = { { 33, 0 }, { 80, 15 }, { 132, 1 } };
+    static const uint8_t faults[3][2] = { { 33, 0 }, { 80, 19 }, { 132, 1 } };
     static const uint64_t answers[] = {
         0x8000000700000001u, 0x8000000600000003u, 0x8000000a00000005u,
         0x8000000b00000000u, 0x8000000d00000000u, 0x000000c000000070u
