@@ -1,6 +1,7 @@
 // The tests of a record's width, and of the width rule of its kind.
 // A caller of `widths_fit` has the number of a kind; the others ask nothing.
 use netlist::record::Fields;
+use netlist::record::Kind;
 use netlist::record::Record;
 ghost use mathlib.Core.Path.{_≡_};
 ghost use mathlib.Core.List.{[], _∷_};
@@ -79,10 +80,7 @@ pub fn widths_fit(code: u64, fields: Fields, w: u64, wa: u64, wb: u64, wc: u64) 
     if code < Record::EQUAL {
         return both_equal(wa, w, wb, w);
     }
-    if code < Record::LEFT_SHIFT {
-        return both_equal(wa, wb, w, 1);
-    }
-    if code < Record::SIGNED_BELOW {
+    if Kind::is_shift(code) {
         return equal_and_below(wa, w, fields.k, w);
     }
     both_equal(wa, wb, w, 1)

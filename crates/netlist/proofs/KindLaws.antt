@@ -1,7 +1,7 @@
 -- Laws of the table of kinds: numbers and kinds answer to each other, 3 alone is an output's number and 2 a register's, which kinds have
 -- two operands, which are shifts and which are gates, unused fields are 0, and k is a word. Assumes nothing.
 use mathlib.Core.Path.{_≡_, refl, sym, ap, _∙_}
-use mathlib.Core.Bool.{Bool, true, false, cond}
+use mathlib.Core.Bool.{Bool, true, false, cond, false≢true}
 use mathlib.Core.List.{List, [], _∷_, _++_}
 use Prim.Native.Nat.{ℕ, zero, suc, _+_, _-_, _^_, _≤_, _<_, compare·suc-suc}
 use native.Mathlib.Omega.{arith}
@@ -10,14 +10,15 @@ use lib.Dec.{eqb, ltb, isEq, lit<}
 use lib.ListN.{getD, drop, replicate, List·getD-eq-default, List·getD-map}
 use Rattle.endian.specs.Lists.{wordsOf, wordsFrom}
 use Rattle.endian.proofs.ListLaws.{word-at}
-use Rattle.netlist.specs.Kinds.{kinds, kindOf, codeOf, usesOf, widthRules, isOutput, isRegister, operandsOf, one, two}
+use Rattle.netlist.specs.Kinds.{kinds, kindOf, codeOf, shiftRange, usesOf, widthRules, isOutput, isRegister, operandsOf, one, two}
 use Rattle.netlist.specs.Limits.{kindCount}
-use Rattle.netlist.specs.Rules.{Rule, equal, below, AllHold}
+use Rattle.netlist.specs.Rules.{Rule, equal, below, AllHold, testAll}
 use Rattle.netlist.specs.declared.record.Fields.{Fields}
 use Rattle.netlist.specs.declared.record.Kind.{Kind}
 use Rattle.netlist.specs.declared.record.Kind.the-variants.{Input, Constant, Register, Output, Extract, Concat, And, Or, Xor, Mux, Add, Sub, Mul, Equal, Below, LeftShift, RightShift, ArithmeticRightShift, SignedBelow}
 use Rattle.netlist.specs.declared.record.Role.the-variants.{Input as input, Register as register, Gate as gate}
 use Rattle.netlist.specs.declared.record.Uses.{Uses}
+use Rattle.netlist.proofs.Tests.{tests-hold}
 
 -- no kind has a number above 18
 pub kindOf-beyond : (code : ℕ) (f : Fields) → kindCount ≤ code → kindOf code f ≡ Input
@@ -89,9 +90,9 @@ pub record Shift (code : ℕ) (f : Fields) : Type 0 where
   pub uses : usesOf (kindOf code f) ≡ one (f .a) (f .k) 0 gate
   pub widths : (w wa wb wc : ℕ) → widthRules (kindOf code f) w wa wb wc ≡ equal wa w ∷ below (f .k) w ∷ []
 
-pub shifts : (code : ℕ) (f : Fields) → 15 ≤ code → code < 18 → Shift code f
+pub shifts : (code : ℕ) (f : Fields) → testAll (shiftRange code) ≡ true → Shift code f
 unfolding kindOf
-shifts code f l h = go (code - 15) (omega arith) (omega arith)
+shifts code f t = let r = tests-hold (shiftRange code) t in go (code - 15) (omega (arith, r .1 .0)) (omega (arith, r .0))
   where
     go : (n : ℕ) → n < 3 → code ≡ 15 + n → Shift code f
     go zero g e = rw e (record { uses = refl; widths = λ w wa wb wc. refl })
@@ -99,7 +100,7 @@ shifts code f l h = go (code - 15) (omega arith) (omega arith)
     go (suc (suc zero)) g e = rw e (record { uses = refl; widths = λ w wa wb wc. refl })
     go (suc (suc (suc n))) g e = absurd (omega arith)
 
--- the kinds from 5 to 14, but for the mux, use two operands; their width rules, by their numbers
+-- the kinds from 5 on, but for the mux and the shifts, use two operands; their width rules, by their numbers
 abbrev pub twoRules : ℕ → ℕ → ℕ → ℕ → List Rule
 twoRules code w wa wb =
     cond (eqb code 5) (equal (wa + wb) w ∷ [])
@@ -112,31 +113,35 @@ pub record TwoOperands (code : ℕ) (f : Fields) : Type 0 where
 abbrev five-on : ℕ → ℕ
 five-on n = suc (suc (suc (suc (suc n))))
 
-from-10 : (n : ℕ) (f : Fields) → five-on (five-on n) < 15 → TwoOperands (five-on (five-on n)) f
+from-10 : (n : ℕ) (f : Fields) → five-on (five-on n) < kindCount → testAll (shiftRange (five-on (five-on n))) ≡ false → TwoOperands (five-on (five-on n)) f
 unfolding kindOf
-from-10 zero f h = record { uses = refl; widths = λ w wa wb wc. refl }
-from-10 (suc zero) f h = record { uses = refl; widths = λ w wa wb wc. refl }
-from-10 (suc (suc zero)) f h = record { uses = refl; widths = λ w wa wb wc. refl }
-from-10 (suc (suc (suc zero))) f h = record { uses = refl; widths = λ w wa wb wc. refl }
-from-10 (suc (suc (suc (suc zero)))) f h = record { uses = refl; widths = λ w wa wb wc. refl }
-from-10 (suc (suc (suc (suc (suc n))))) f h = absurd (omega arith)
+from-10 zero f h s = record { uses = refl; widths = λ w wa wb wc. refl }
+from-10 (suc zero) f h s = record { uses = refl; widths = λ w wa wb wc. refl }
+from-10 (suc (suc zero)) f h s = record { uses = refl; widths = λ w wa wb wc. refl }
+from-10 (suc (suc (suc zero))) f h s = record { uses = refl; widths = λ w wa wb wc. refl }
+from-10 (suc (suc (suc (suc zero)))) f h s = record { uses = refl; widths = λ w wa wb wc. refl }
+from-10 (suc (suc (suc (suc (suc zero))))) f h s = absurd (false≢true (sym s))
+from-10 (suc (suc (suc (suc (suc (suc zero)))))) f h s = absurd (false≢true (sym s))
+from-10 (suc (suc (suc (suc (suc (suc (suc zero))))))) f h s = absurd (false≢true (sym s))
+from-10 (suc (suc (suc (suc (suc (suc (suc (suc zero)))))))) f h s = record { uses = refl; widths = λ w wa wb wc. refl }
+from-10 (suc (suc (suc (suc (suc (suc (suc (suc (suc n))))))))) f h s = absurd (omega arith)
 
-from-5 : (n : ℕ) (f : Fields) → five-on n < 15 → (five-on n ≡ 9 → ⊥) → TwoOperands (five-on n) f
+from-5 : (n : ℕ) (f : Fields) → five-on n < kindCount → testAll (shiftRange (five-on n)) ≡ false → (five-on n ≡ 9 → ⊥) → TwoOperands (five-on n) f
 unfolding kindOf
-from-5 zero f h g = record { uses = refl; widths = λ w wa wb wc. refl }
-from-5 (suc zero) f h g = record { uses = refl; widths = λ w wa wb wc. refl }
-from-5 (suc (suc zero)) f h g = record { uses = refl; widths = λ w wa wb wc. refl }
-from-5 (suc (suc (suc zero))) f h g = record { uses = refl; widths = λ w wa wb wc. refl }
-from-5 (suc (suc (suc (suc zero)))) f h g = absurd (g refl)
-from-5 (suc (suc (suc (suc (suc n))))) f h g = from-10 n f h
+from-5 zero f h s g = record { uses = refl; widths = λ w wa wb wc. refl }
+from-5 (suc zero) f h s g = record { uses = refl; widths = λ w wa wb wc. refl }
+from-5 (suc (suc zero)) f h s g = record { uses = refl; widths = λ w wa wb wc. refl }
+from-5 (suc (suc (suc zero))) f h s g = record { uses = refl; widths = λ w wa wb wc. refl }
+from-5 (suc (suc (suc (suc zero)))) f h s g = absurd (g refl)
+from-5 (suc (suc (suc (suc (suc n))))) f h s g = from-10 n f h s
 
-pub two-operands : (code : ℕ) (f : Fields) → 5 ≤ code → code < 15 → (code ≡ 9 → ⊥) → TwoOperands code f
-two-operands zero f l h g = absurd (omega arith)
-two-operands (suc zero) f l h g = absurd (omega arith)
-two-operands (suc (suc zero)) f l h g = absurd (omega arith)
-two-operands (suc (suc (suc zero))) f l h g = absurd (omega arith)
-two-operands (suc (suc (suc (suc zero)))) f l h g = absurd (omega arith)
-two-operands (suc (suc (suc (suc (suc n))))) f l h g = from-5 n f h g
+pub two-operands : (code : ℕ) (f : Fields) → 5 ≤ code → code < kindCount → testAll (shiftRange code) ≡ false → (code ≡ 9 → ⊥) → TwoOperands code f
+two-operands zero f l h s g = absurd (omega arith)
+two-operands (suc zero) f l h s g = absurd (omega arith)
+two-operands (suc (suc zero)) f l h s g = absurd (omega arith)
+two-operands (suc (suc (suc zero))) f l h s g = absurd (omega arith)
+two-operands (suc (suc (suc (suc zero)))) f l h s g = absurd (omega arith)
+two-operands (suc (suc (suc (suc (suc n))))) f l h s g = from-5 n f h s g
 
 -- a kind is the one with its number and the fields that it uses
 abbrev pub usedFields : Uses → Fields

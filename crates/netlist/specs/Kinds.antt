@@ -62,6 +62,10 @@ codeOf (RightShift a k) = 16
 codeOf (ArithmeticRightShift a k) = 17
 codeOf (SignedBelow a b) = 18
 
+-- The numbers of the shifts.
+abbrev pub shiftRange : ℕ → List Rule
+shiftRange code = atMost 15 code ∷ below code 18 ∷ []
+
 -- What a kind uses: no operand, one, two or three, then k; 0 stands for a field that is not used. `word` is the k of a constant or
 -- register, which has to fit the width, and 0 elsewhere.
 abbrev pub none : ℕ → ℕ → Role → Uses

@@ -4,8 +4,9 @@ ghost use mathlib.Core.Path.{_≡_};
 ghost use mathlib.Core.Bool.{cond};
 ghost use Prim.Native.Nat.{_≤_, _<_};
 ghost use lib.Dec.{ltb};
-ghost use Rattle.netlist.specs.Kinds.{kindOf, usesOf, none, one, two, three};
+ghost use Rattle.netlist.specs.Kinds.{kindOf, shiftRange, usesOf, none, one, two, three};
 ghost use Rattle.netlist.specs.Limits.{kindCount};
+ghost use Rattle.netlist.specs.Rules.{testAll};
 ghost use Rattle.netlist.specs.declared.record.Role.the-variants.{Input, Gate};
 
 // The four fields of a record in the file, used or not.
@@ -131,6 +132,13 @@ impl Kind {
             _ => Kind::Input,
         }
     }
+
+    // Whether a number is a shift's.
+    pub fn is_shift(code: u64) -> bool
+        ensures { λ r. ⌜ r ≡ testAll (shiftRange code) ⌝ }
+    {
+        Record::LEFT_SHIFT <= code && code < Record::SIGNED_BELOW
+    }
 }
 
 impl Role {
@@ -174,10 +182,7 @@ impl Uses {
         if code == Record::MUX {
             return Uses::three(fields.a, fields.b, fields.c);
         }
-        if code < Record::LEFT_SHIFT {
-            return Uses::two(fields.a, fields.b);
-        }
-        if code < Record::SIGNED_BELOW {
+        if Kind::is_shift(code) {
             return Uses::one(fields.a, fields.k, 0, Role::Gate);
         }
         if code < Record::KINDS {

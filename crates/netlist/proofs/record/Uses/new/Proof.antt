@@ -1,7 +1,6 @@
 -- `netlist::record::Uses::new` meets its contract: each test leaves the kinds of one number of operands.
 -- Assumes nothing.
-use mathlib.Core.Path.{_≡_, sym, ap, _∙_}
-use native.Mathlib.Omega.{arith}
+use mathlib.Core.Path.{sym, ap, _∙_}
 use borrow.Author.Needs.{needs}
 use Rattle.netlist.specs.Kinds.{kindOf, usesOf}
 use Rattle.netlist.proofs.KindLaws.{kindOf-beyond, shifts, two-operands}
@@ -27,41 +26,36 @@ returns-3 : tie.Need-returns-3
 unfolding kindOf
 returns-3 c = rw (c .before .if3 .taken) (c .three .ensures)
 
-two-requires : tie.Need-two-requires
-two-requires c κs = search needs
-
-returns-4 : tie.Need-returns-4
-returns-4 c =
-    let a = c .before .before .before .before .before .args in
-    c .two .ensures
-    ∙ sym (two-operands (a .code) (a .fields) (c .before .before .before .if2 .left) (c .before .if4 .taken) (c .before .before .if3 .left) .uses)
+is-shift-requires : tie.Need-is-shift-requires
+is-shift-requires c κs = search needs
 
 one-requires : tie.Need-one-requires
 one-requires c κs = search needs
 
+returns-4 : tie.Need-returns-4
+returns-4 c =
+    let a = c .before .before .before .before .before .before .args in
+    c .one .ensures ∙ sym (shifts (a .code) (a .fields) (sym (c .before .before .is-shift .ensures) ∙ c .before .if4 .taken) .uses)
+
+two-requires : tie.Need-two-requires
+two-requires c κs = search needs
+
 returns-5 : tie.Need-returns-5
 returns-5 c =
-    let a = c .before .before .before .before .before .before .args in
-    c .one .ensures ∙ sym (shifts (a .code) (a .fields) (c .before .before .if4 .left) (c .before .if5 .taken) .uses)
-
-two-requires-2 : tie.Need-two-requires-2
-two-requires-2 c κs = search needs
-
-returns-6 : tie.Need-returns-6
-unfolding kindOf
-returns-6 c =
-    let h = c .before .if6 .taken in
-    let l = c .before .before .if5 .left in
-    let e : c .before .before .before .before .before .before .before .args .code ≡ 18 = omega arith in
-    rw e (c .two2 .ensures)
+    let a = c .before .before .before .before .before .before .before .args in
+    let no-shift = sym (c .before .before .before .is-shift .ensures) ∙ c .before .before .if4 .left in
+    c .two .ensures
+    ∙ sym
+    (two-operands (a .code) (a .fields) (c .before .before .before .before .before .if2 .left) (c .before .if5 .taken) no-shift
+    (c .before .before .before .before .if3 .left) .uses)
 
 none-requires : tie.Need-none-requires
 none-requires c κs = search needs
 
-returns-7 : tie.Need-returns-7
-returns-7 c =
+returns-6 : tie.Need-returns-6
+returns-6 c =
     let a = c .before .before .before .before .before .before .before .args in
-    c .none .ensures ∙ ap usesOf (sym (kindOf-beyond (a .code) (a .fields) (c .before .if6 .left)))
+    c .none .ensures ∙ ap usesOf (sym (kindOf-beyond (a .code) (a .fields) (c .before .if5 .left)))
 
 pub new-spec : {M : Type 1} → statement M
 new-spec =
@@ -73,11 +67,10 @@ new-spec =
     returns-2
     three-requires
     returns-3
-    two-requires
-    returns-4
+    is-shift-requires
     one-requires
+    returns-4
+    two-requires
     returns-5
-    two-requires-2
-    returns-6
     none-requires
-    returns-7)
+    returns-6)
