@@ -245,7 +245,7 @@ is-register (RightShift b l) a k e = absurd (let z : _≡_ {A = ℕ} 0 1 = cc in
 is-register (ArithmeticRightShift b l) a k e = absurd (let z : _≡_ {A = ℕ} 0 1 = cc in omega arith)
 is-register (SignedBelow b c) a k e = absurd (let z : _≡_ {A = ℕ} 0 1 = cc in omega arith)
 
--- k is a word of 64 bits: it fits its record's width, or it is a place within its operand or below that width
+-- k is a word of 64 bits: it fits its record's width, is a place within its operand, or is below the operand's width
 pub k-word : (kind : Kind) (w wa wb wc : ℕ) → AllHold (widthRules kind w wa wb wc) → usesOf kind .word < 2 ^ 64 → wa ≤ 64 → usesOf kind .k < 2 ^ 64
 k-word Input w wa wb wc h g l = lit< tt
 k-word (Constant k) w wa wb wc h g l = g

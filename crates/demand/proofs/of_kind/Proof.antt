@@ -1,15 +1,26 @@
 -- `demand::of_kind` meets its contract: each kind has its line in the definition.
 -- Assumes nothing.
 use mathlib.Core.Path.{_≡_, sym, subst, _∙_}
+use mathlib.Core.List.{List}
 use Prim.Native.Nat.{ℕ, _≤_, _<_}
-use denote.Ref.{now}
 use Rattle.bits.specs.Words.{up, down}
 use Rattle.netlist.specs.declared.record.Kind.{Kind}
-use Rattle.netlist.specs.Layout.{designOf, recordAt}
+use Rattle.netlist.specs.Kinds.{usesOf}
+use Rattle.netlist.specs.Layout.{designOf, widthAt, recordAt}
 use Rattle.signal.specs.Asks.{upWithin}
 use Rattle.demand.specs.Held.{Readable}
 use Rattle.demand.proofs.of_kind.Statement.{statement}
 use Rattle.demand.proofs.of_kind.Tie as tie
+
+-- what is known of the kind is known of the case that the match has told
+told : {file : List ℕ} {kind k : Kind} → Readable file kind → kind ≡ k → Readable file k
+told {file} r e = subst (Readable file) e r
+
+-- the widths of both operands, as the code has read them
+both-narrow : {file : List ℕ} {kind : Kind} {v w : ℕ} → Readable file kind → v ≡ widthAt file (usesOf kind .a) → w ≡ widthAt file (usesOf kind .b)
+    → (v ≤ 64) × (w ≤ 64)
+unfolding designOf recordAt
+both-narrow r p q = (subst (λ (n : ℕ). n ≤ 64) (sym p) (r .narrow-first), subst (λ (n : ℕ). n ≤ 64) (sym q) (r .narrow-second))
 
 enum-told : tie.Need-enum-told
 enum-told c = c .match .keys1
@@ -48,8 +59,7 @@ enum-known-kind-4 : tie.Need-enum-known-kind-4
 enum-known-kind-4 c = c .match .keys6
 
 width-at-requires : tie.Need-width-at-requires
-width-at-requires c κs = (subst (λ (k : Kind). Readable (now (c .before .before .before .before .before .args .file)) k) (c .before .kind4 .given .1)
-    (c .before .before .before .before .before .pre .0)) .second
+width-at-requires c κs = told (c .before .before .before .before .before .pre .0) (c .before .kind4 .given .1) .second
 
 of-concat-requires : tie.Need-of-concat-requires
 of-concat-requires c κs = tt
@@ -100,39 +110,25 @@ enum-known-kind-12 : tie.Need-enum-known-kind-12
 enum-known-kind-12 c = c .match .keys14
 
 width-at-requires-2 : tie.Need-width-at-requires-2
-width-at-requires-2 c κs = (subst (λ (k : Kind). Readable (now (c .before .before .before .before .before .args .file)) k) (c .before .kind12 .given .1)
-    (c .before .before .before .before .before .pre .0)) .first
+width-at-requires-2 c κs = told (c .before .before .before .before .before .pre .0) (c .before .kind12 .given .1) .first
 
 width-at-requires-3 : tie.Need-width-at-requires-3
-width-at-requires-3 c κs = (subst (λ (k : Kind). Readable (now (c .before .before .before .before .before .before .args .file)) k)
-    (c .before .before .kind12 .given .1) (c .before .before .before .before .before .before .pre .0)) .second
+width-at-requires-3 c κs = told (c .before .before .before .before .before .before .pre .0) (c .before .before .kind12 .given .1) .second
 
 of-comparison-requires : tie.Need-of-comparison-requires
-unfolding designOf recordAt
-of-comparison-requires c κs = let r = subst (λ (k : Kind). Readable (now (c .before .before .before .before .before .before .before .args .file)) k)
-    (c .before .before .before .kind12 .given .1) (c .before .before .before .before .before .before .before .pre .0) in (
-      subst (λ (w : ℕ). w ≤ 64) (sym (c .before .width-at2 .ensures)) (r .narrow-first),
-      subst (λ (w : ℕ). w ≤ 64) (sym (c .width-at3 .ensures)) (r .narrow-second),
-    )
+of-comparison-requires c κs = both-narrow (told (c .before .before .before .before .before .before .before .pre .0) (c .before .before .before .kind12 .given .1)) (c .before .width-at2 .ensures) (c .width-at3 .ensures)
 
 enum-known-kind-13 : tie.Need-enum-known-kind-13
 enum-known-kind-13 c = c .match .keys15
 
 width-at-requires-4 : tie.Need-width-at-requires-4
-width-at-requires-4 c κs = (subst (λ (k : Kind). Readable (now (c .before .before .before .before .before .args .file)) k) (c .before .kind13 .given .1)
-    (c .before .before .before .before .before .pre .0)) .first
+width-at-requires-4 c κs = told (c .before .before .before .before .before .pre .0) (c .before .kind13 .given .1) .first
 
 width-at-requires-5 : tie.Need-width-at-requires-5
-width-at-requires-5 c κs = (subst (λ (k : Kind). Readable (now (c .before .before .before .before .before .before .args .file)) k)
-    (c .before .before .kind13 .given .1) (c .before .before .before .before .before .before .pre .0)) .second
+width-at-requires-5 c κs = told (c .before .before .before .before .before .before .pre .0) (c .before .before .kind13 .given .1) .second
 
 of-comparison-requires-2 : tie.Need-of-comparison-requires-2
-unfolding designOf recordAt
-of-comparison-requires-2 c κs = let r = subst (λ (k : Kind). Readable (now (c .before .before .before .before .before .before .before .args .file)) k)
-    (c .before .before .before .kind13 .given .1) (c .before .before .before .before .before .before .before .pre .0) in (
-      subst (λ (w : ℕ). w ≤ 64) (sym (c .before .width-at4 .ensures)) (r .narrow-first),
-      subst (λ (w : ℕ). w ≤ 64) (sym (c .width-at5 .ensures)) (r .narrow-second),
-    )
+of-comparison-requires-2 c κs = both-narrow (told (c .before .before .before .before .before .before .before .pre .0) (c .before .before .before .kind13 .given .1)) (c .before .width-at4 .ensures) (c .width-at5 .ensures)
 
 enum-known-kind-14 : tie.Need-enum-known-kind-14
 enum-known-kind-14 c = c .match .keys16
@@ -147,7 +143,7 @@ enum-known-kind-15 : tie.Need-enum-known-kind-15
 enum-known-kind-15 c = c .match .keys17
 
 width-at-requires-6 : tie.Need-width-at-requires-6
-width-at-requires-6 c κs = (subst (λ (k : Kind). Readable (now (c .before .before .before .before .before .args .file)) k) (c .before .kind15 .given .1) (c .before .before .before .before .before .pre .0)) .first
+width-at-requires-6 c κs = told (c .before .before .before .before .before .pre .0) (c .before .kind15 .given .1) .first
 
 up-within-requires : tie.Need-up-within-requires
 up-within-requires c κs = tt
@@ -159,12 +155,12 @@ enum-known-kind-16 : tie.Need-enum-known-kind-16
 enum-known-kind-16 c = c .match .keys18
 
 width-at-requires-7 : tie.Need-width-at-requires-7
-width-at-requires-7 c κs = (subst (λ (k : Kind). Readable (now (c .before .before .before .before .before .args .file)) k) (c .before .kind16 .given .1) (c .before .before .before .before .before .pre .0)) .first
+width-at-requires-7 c κs = told (c .before .before .before .before .before .pre .0) (c .before .kind16 .given .1) .first
 
 of-arithmetic-shift-requires : tie.Need-of-arithmetic-shift-requires
 unfolding designOf recordAt
 of-arithmetic-shift-requires c κs =
-    let r = (subst (λ (k : Kind). Readable (now (c .before .before .before .before .before .before .args .file)) k) (c .before .before .kind16 .given .1) (c .before .before .before .before .before .before .pre .0)) in
+    let r = told (c .before .before .before .before .before .before .pre .0) (c .before .before .kind16 .given .1) in
     let same = sym (c .width-at7 .ensures) in (
       subst (λ (w : ℕ). c .before .before .kind16 .given .0 .1 .0 < w) (sym (r .widths .0) ∙ same) (r .widths .1 .0),
       subst (λ (w : ℕ). w ≤ 64) same (r .narrow-first),
@@ -174,18 +170,13 @@ enum-known-kind-17 : tie.Need-enum-known-kind-17
 enum-known-kind-17 c = c .match .keys19
 
 width-at-requires-8 : tie.Need-width-at-requires-8
-width-at-requires-8 c κs = (subst (λ (k : Kind). Readable (now (c .before .before .before .before .before .args .file)) k) (c .before .kind17 .given .1) (c .before .before .before .before .before .pre .0)) .first
+width-at-requires-8 c κs = told (c .before .before .before .before .before .pre .0) (c .before .kind17 .given .1) .first
 
 width-at-requires-9 : tie.Need-width-at-requires-9
-width-at-requires-9 c κs = (subst (λ (k : Kind). Readable (now (c .before .before .before .before .before .before .args .file)) k) (c .before .before .kind17 .given .1) (c .before .before .before .before .before .before .pre .0)) .second
+width-at-requires-9 c κs = told (c .before .before .before .before .before .before .pre .0) (c .before .before .kind17 .given .1) .second
 
 of-comparison-requires-3 : tie.Need-of-comparison-requires-3
-unfolding designOf recordAt
-of-comparison-requires-3 c κs =
-    let r = (subst (λ (k : Kind). Readable (now (c .before .before .before .before .before .before .before .args .file)) k) (c .before .before .before .kind17 .given .1) (c .before .before .before .before .before .before .before .pre .0)) in (
-      subst (λ (w : ℕ). w ≤ 64) (sym (c .before .width-at8 .ensures)) (r .narrow-first),
-      subst (λ (w : ℕ). w ≤ 64) (sym (c .width-at9 .ensures)) (r .narrow-second),
-    )
+of-comparison-requires-3 c κs = both-narrow (told (c .before .before .before .before .before .before .before .pre .0) (c .before .before .before .kind17 .given .1)) (c .before .width-at8 .ensures) (c .width-at9 .ensures)
 
 returns : tie.Need-returns
 returns c = rw (c .before .enum-told .given .1) (c .none .ensures)
