@@ -1,8 +1,6 @@
 -- How the code holds what a record asks, and what it can read. No rule is stated here, and no promise of an operation mentions it.
 -- Assumes nothing.
-use mathlib.Core.Path.{_≡_}
 use mathlib.Core.List.{List, [], _∷_}
-use mathlib.Core.Logic.{_⊎_}
 use Prim.Native.Nat.{ℕ, _+_, _≤_}
 use lib.ListN.{length, take}
 use Rattle.netlist.specs.Limits.{maxWidth}
@@ -10,17 +8,12 @@ use Rattle.netlist.specs.Kinds.{usesOf, widthRules}
 use Rattle.netlist.specs.Layout.{designOf, recordStart, recordSize}
 use Rattle.netlist.specs.Rules.{AllHold}
 use Rattle.netlist.specs.declared.record.Kind.{Kind}
-use Rattle.signal.specs.AskLists.{NoBit}
 use Rattle.signal.specs.declared.Ask.{Ask}
 use Rattle.demand.specs.declared.Asks.{Asks}
 
 -- The asks that the code's struct holds.
 abbrev pub listed : Asks → List Ask
 listed r = take (r .count) (r .first ∷ r .second ∷ r .third ∷ [])
-
--- The code's struct holds just what is asked, or nothing where no bit is.
-abbrev pub Serves : Asks → List Ask → Type 0
-Serves r xs = (listed r ≡ xs) ⊎ ((listed r ≡ []) × NoBit xs)
 
 -- The file holds the first two operands of a kind, they are words of at most 64 bits, and a record of some width keeps the kind's rule.
 pub record Readable (file : List ℕ) (kind : Kind) : Type 0 where

@@ -8,7 +8,6 @@ use bits::mask::low_entry;
 use bits::mask::low_mask;
 use netlist::layout::keep_at;
 use netlist::layout::record_at;
-use netlist::layout::uses_at;
 use netlist::layout::width_at;
 use netlist::record::Kind;
 use signal::Ask;
@@ -16,14 +15,12 @@ ghost use mathlib.Core.Path.{_≡_};
 ghost use mathlib.Core.List.{[], _∷_};
 ghost use Prim.Native.Nat.{_+_, _≤_, _<_};
 ghost use lib.Bits.{bitOr};
-ghost use lib.Dec.{ltb};
 ghost use lib.ListN.{length};
 ghost use Rattle.bits.specs.Words.{cut, down, lowMasks};
-ghost use Rattle.netlist.specs.Kinds.{usesOf};
 ghost use Rattle.netlist.specs.Layout.{designOf, countOf, recordStart, recordSize};
 ghost use Rattle.rules.specs.Sound.{Acceptance};
-ghost use Rattle.signal.specs.Asks.{ask, upToHighest, allIfAny, upWithin, topIfCopied, asksOf, asked};
-ghost use Rattle.demand.specs.Held.{listed, Serves, Readable};
+ghost use Rattle.signal.specs.Asks.{ask, upToHighest, ifAny, allIfAny, upWithin, topIfCopied, asksOf, demandOf};
+ghost use Rattle.demand.specs.Held.{listed, Readable};
 
 // What a record asks: the first `count` of three.
 pub struct Asks {
@@ -95,12 +92,19 @@ fn up_to_highest(low: &[u64], d: u64) -> u64
     low_entry(low, bit_length(d))
 }
 
+// The bits of m if d is not 0, and nothing if it is.
+fn if_any(m: u64, d: u64) -> u64
+    ensures { λ r. ⌜ r ≡ ifAny m d ⌝ }
+{
+    if d == 0 { 0 } else { m }
+}
+
 // All w bits if d is not 0, and nothing if it is.
-fn all_if_any(d: u64, w: u64) -> u64
+fn all_if_any(w: u64, d: u64) -> u64
     requires { ⌜ w ≤ 64 ⌝ }
     ensures { λ r. ⌜ r ≡ allIfAny w d ⌝ }
 {
-    if d == 0 { 0 } else { low_mask(w) }
+    if_any(low_mask(w), d)
 }
 
 // A sum, difference or product: a carry may reach every bit above it.
@@ -117,7 +121,7 @@ fn of_comparison(a: usize, v: u64, b: usize, w: u64, d: u64) -> Asks
     requires { ⌜ (v ≤ 64) × (w ≤ 64) ⌝ }
     ensures { λ r. ⌜ listed r ≡ ask a (allIfAny v d) ∷ ask b (allIfAny w d) ∷ [] ⌝ }
 {
-    Asks::two(a, all_if_any(d, v), b, all_if_any(d, w))
+    Asks::two(a, all_if_any(v, d), b, all_if_any(w, d))
 }
 
 // A concat whose low operand b has w bits.
@@ -139,7 +143,7 @@ fn top_if_copied(d: u64, k: u64, w: u64) -> u64
     requires { ⌜ (k < w) × (w ≤ 64) ⌝ }
     ensures { λ r. ⌜ r ≡ topIfCopied w k d ⌝ }
 {
-    if shr(d, w - k) == 0 { 0 } else { 1 << (w - 1) }
+    if_any(1 << (w - 1), shr(d, w - k))
 }
 
 // A right shift by k that copies the top bit of its operand of w bits.
@@ -165,7 +169,7 @@ fn of_kind(file: &[u8], low: &[u64], kind: Kind, d: u64) -> Asks
         Kind::And { a, b } => Asks::two(a, d, b, d),
         Kind::Or { a, b } => Asks::two(a, d, b, d),
         Kind::Xor { a, b } => Asks::two(a, d, b, d),
-        Kind::Mux { a, b, c } => Asks::three(a, 1, b, d, c, d),
+        Kind::Mux { a, b, c } => Asks::three(a, if_any(1, d), b, d, c, d),
         Kind::Add { a, b } => of_carries(low, a, b, d),
         Kind::Sub { a, b } => of_carries(low, a, b, d),
         Kind::Mul { a, b } => of_carries(low, a, b, d),
@@ -178,24 +182,20 @@ fn of_kind(file: &[u8], low: &[u64], kind: Kind, d: u64) -> Asks
     }
 }
 
-// Whether record i has fewer operands than a mux, and so asks for no bit when its D is 0.
-fn is_quiet(file: &[u8], i: usize) -> bool
+// D of record i, whose mask is m.
+pub fn demand_at(file: &[u8], i: usize, m: u64) -> u64
     requires { ⌜ recordStart i + recordSize ≤ length (now file) ⌝ }
-    ensures { λ r. ⌜ r ≡ ltb (usesOf (designOf (now (file .entry)) .at i .kind) .count) 3 ⌝ }
+    ensures { λ r. ⌜ r ≡ demandOf (designOf (now (file .entry)) .at i) m ⌝ }
 {
-    let uses = uses_at(file, i);
-    uses.count < 3
+    let keep = keep_at(file, i);
+    m & keep
 }
 
-// What record i asks when its mask is m, by a table of the low masks. Where nothing is asked, the kind is not looked at further.
-pub fn asked(file: &[u8], low: &[u64], i: usize, m: u64) -> Asks
+// What record i asks with d for D, by a table of the low masks.
+pub fn asked(file: &[u8], low: &[u64], i: usize, d: u64) -> Asks
     requires { ⌜ Acceptance (now file) (countOf (now file)) × (i < countOf (now file)) × (now low ≡ lowMasks) ⌝ }
-    ensures { λ r. ⌜ Serves r (asked (designOf (now (file .entry)) .at) i m) ⌝ }
+    ensures { λ r. ⌜ listed r ≡ asksOf (designOf (now (file .entry)) .at) (designOf (now (file .entry)) .at i .kind) d ⌝ }
 {
-    let d = m & keep_at(file, i);
-    if d == 0 && is_quiet(file, i) {
-        return Asks::none();
-    }
     let record = record_at(file, i);
     let kind = record.kind;
     of_kind(file, low, kind, d)

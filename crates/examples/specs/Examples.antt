@@ -114,7 +114,7 @@ table =
     ∷ record { defined = masksSay (ramp 8 8); said = 7 ∷ 176 ∷ 88 ∷ 0xffff ∷ 0xffff ∷ 0xffff ∷ 0xffff ∷ 0xff00 ∷ 0xff ∷ 0xff ∷ [] }
     ∷ record { defined = masksSay counter; said = 3 ∷ 24 ∷ 0 ∷ 0 ∷ 0 ∷ 0 ∷ [] }
     ∷ record { defined = masksSay shiftChain; said = 6 ∷ 14 ∷ 14 ∷ 1 ∷ 0xf ∷ 7 ∷ 0xf ∷ 1 ∷ 1 ∷ [] }
-    ∷ record { defined = masksSay unreadMux; said = 4 ∷ 25 ∷ 1 ∷ 1 ∷ 0 ∷ 0 ∷ 0 ∷ [] }
+    ∷ record { defined = masksSay unreadMux; said = 4 ∷ 25 ∷ 0 ∷ 0 ∷ 0 ∷ 0 ∷ 0 ∷ [] }
     ∷ record { defined = nextSay swapped (1 ∷ 2 ∷ []); said = 2 ∷ 1 ∷ [] }
     ∷ record { defined = valuesSay difference (0 ∷ 0 ∷ 0 ∷ []); said = 0 ∷ 1 ∷ 255 ∷ [] }
     ∷ record { defined = valuesSay square (0 ∷ 0 ∷ []); said = 0x100000001 ∷ 8589934593 ∷ [] }

@@ -3,14 +3,13 @@
 use crate::record::Fields;
 use crate::record::Record;
 use crate::record::Role;
-use crate::record::Uses;
 use endian::read_16;
 use endian::read_64;
 ghost use mathlib.Core.Bool.{cond};
 ghost use mathlib.Core.Path.{_≡_};
 ghost use Prim.Native.Nat.{_+_, _*_, _≤_, _<_, _^_};
 ghost use lib.ListN.{length};
-ghost use Rattle.netlist.specs.Kinds.{usesOf, isRegister};
+ghost use Rattle.netlist.specs.Kinds.{isRegister};
 ghost use Rattle.netlist.specs.Layout.{headerSize, recordSize, recordStart, keepStart, countOf, versionOf, codeAt, widthAt, fieldsAt, keepAt, recordAt, designOf, roleAt};
 
 // The sizes of the header and of a record, in bytes.
@@ -115,12 +114,4 @@ pub fn register_at(file: &[u8], i: usize) -> u64
 {
     let at = record_start(i);
     (256 - (file[at] as u64 ^ Record::REGISTER)) / 256
-}
-
-// What the kind of record i uses.
-pub fn uses_at(file: &[u8], i: usize) -> Uses
-    requires { ⌜ recordStart i + recordSize ≤ length (now file) ⌝ }
-    ensures { λ r. ⌜ r ≡ usesOf (recordAt (now (file .entry)) i .kind) ⌝ }
-{
-    Uses::new(code_at(file, i), fields_at(file, i))
 }

@@ -5,4 +5,5 @@ pub mod SignedLaws
 pub mod ResultWidths
 pub mod RuleLaws
 pub mod ResultLaws
+pub mod AskedNothing
 pub mod AskedOperands

@@ -26,7 +26,7 @@ use Rattle.rules.specs.Fit.{operandLimit, namesRules, operandRules, widthRulesA
 use Rattle.rules.specs.Sound.{Sound}
 use Rattle.rules.proofs.SoundLaws.{operands-below}
 use Rattle.signal.specs.Results.{arithmeticDown, signedAt, resultOf, resultAt}
-use Rattle.signal.specs.Asks.{ask, allIfAny, upWithin, topIfCopied, asksOf, demandOf, asked}
+use Rattle.signal.specs.Asks.{ask, ifAny, allIfAny, upWithin, topIfCopied, asksOf, demandOf, asked}
 use Rattle.signal.specs.declared.Ask.{Ask}
 use Rattle.signal.proofs.ShiftLaws.{agree-left-shift, agree-right-shift, agree-arithmetic-shift}
 
@@ -45,9 +45,14 @@ AllMet at v v′ (x ∷ xs) = Met at v v′ x × AllMet at v v′ xs
 
 -- ---- choices and comparisons
 
-agree-choice : {D y y′ z z′ : ℕ} (b : Bool) → Agree D y y′ → Agree D z z′ → Agree D (cond b y z) (cond b y′ z′)
-agree-choice true h g = h
-agree-choice false h g = g
+agree-cond : {D y y′ z z′ : ℕ} (b : Bool) → Agree D y y′ → Agree D z z′ → Agree D (cond b y z) (cond b y′ z′)
+agree-cond true h g = h
+agree-cond false h g = g
+
+-- a choice by selectors that are equal, if D is not 0
+agree-choice : {D x x′ y y′ z z′ : ℕ} → (D ≡ 0) ⊎ (x ≡ x′) → Agree D y y′ → Agree D z z′ → Agree D (cond (eqb x 1) y z) (cond (eqb x′ 1) y′ z′)
+agree-choice (inl e) h g = rw e (agree-zero _ _)
+agree-choice {x′ = x′} (inr e) h g = rw e (agree-cond (eqb x′ 1) h g)
 
 -- values that agree on all bits if D is not 0 are equal, if it is not
 any-equal : (w D : ℕ) {x y : ℕ} → x < 2 ^ w → y < 2 ^ w → Agree (allIfAny w D) x y → (D ≡ 0) ⊎ (x ≡ y)
@@ -69,8 +74,8 @@ module _ (at : ℕ → Record) (v v′ : ℕ → ℕ) {w D : ℕ} (low : D < 2 ^
       agree-test f (any-equal (at a .width) D (m .0 .first) (m .0 .second) (m .0 .agree))
       (any-equal (at b .width) D (m .1 .0 .first) (m .1 .0 .second) (m .1 .0 .agree))
 
-  selected : (a : ℕ) → at a .width ≡ 1 → Met at v v′ (ask a 1) → v a ≡ v′ a
-  selected a e m = agree-equal 1 (subst (λ (u : ℕ). v a < 2 ^ u) e (m .first)) (subst (λ (u : ℕ). v′ a < 2 ^ u) e (m .second)) (m .agree)
+  selected : (a : ℕ) → at a .width ≡ 1 → Met at v v′ (ask a (ifAny 1 D)) → (D ≡ 0) ⊎ (v a ≡ v′ a)
+  selected a e m = any-equal 1 D (subst (λ (u : ℕ). v a < 2 ^ u) e (m .first)) (subst (λ (u : ℕ). v′ a < 2 ^ u) e (m .second)) (m .agree)
 
   -- the shift is of the record's width, and asks by that of its operand
   shifted : (a k : ℕ) → at a .width ≡ w → k < w → Met at v v′ (ask a (bitOr (upWithin (at a .width) k D) (topIfCopied (at a .width) k D)))
@@ -97,7 +102,7 @@ module _ (at : ℕ → Record) (v v′ : ℕ → ℕ) {w D : ℕ} (low : D < 2 ^
   results-agree (Xor a b) own own′ n r held met = agree-xor (met refl .0 .agree) (met refl .1 .0 .agree)
   results-agree (Mux a b c) own own′ n r held met =
       let m = met refl in
-      rw (selected a (r .0) (m .0)) (agree-choice (eqb (v′ a) 1) (m .1 .0 .agree) (m .1 .1 .0 .agree))
+      agree-choice (selected a (r .0) (m .0)) (m .1 .0 .agree) (m .1 .1 .0 .agree)
   results-agree (Add a b) own own′ n r held met = agree-sum w low narrow (met refl .0 .agree) (met refl .1 .0 .agree)
   results-agree (Sub a b) own own′ n r held met = agree-difference w low narrow (met refl .0 .agree) (met refl .1 .0 .agree)
   results-agree (Mul a b) own own′ n r held met = agree-product w low narrow (met refl .0 .agree) (met refl .1 .0 .agree)

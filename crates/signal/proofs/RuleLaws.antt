@@ -1,8 +1,8 @@
--- The laws of the care rules, kind by kind: what is asked grows with D, stays within the operands' widths, and is mostly no bit for D 0.
+-- The laws of the care rules, kind by kind: what is asked grows with D, and stays within the operands' widths.
 -- Assumes nothing. The crates above use these laws and look at no kind.
-use mathlib.Core.Path.{_≡_, refl, sym, ap, ap₂, _∙_, subst}
-use Prim.Native.Nat.{ℕ, zero, suc, _-_, _%_, _^_, _≤_, _<_}
-use native.Mathlib.Nat.{lt-of-le-of-lt, lt-of-lt-of-le, mod-lt, zero-mul, zero-div, zero-mod}
+use mathlib.Core.Path.{_≡_, sym, subst}
+use Prim.Native.Nat.{ℕ, zero, suc, _-_, _^_, _≤_, _<_}
+use native.Mathlib.Nat.{lt-of-le-of-lt, lt-of-lt-of-le, mod-lt}
 use native.Mathlib.Omega.{arith}
 use lib.Bits.{bitAnd, bitOr}
 use lib.Dec.{eqb·suc-zero, lit<}
@@ -10,7 +10,7 @@ use lib.Pow.{pow-pos, pow-mono, pow-lt, shr-le}
 use Rattle.bits.specs.Masks.{Within}
 use Rattle.bits.specs.Words.{lowMask, down}
 use Rattle.bits.proofs.Order.{within-refl, within-trans, within-zero, within-le, within-low, within-lt, low-mono, join-left, join-right, join-least, meet-right, meet-mono}
-use Rattle.bits.proofs.Shifts.{cut-mono, up-mono, up-lt, down-mono, down-lt, length-zero, length-le, length-mono}
+use Rattle.bits.proofs.Shifts.{cut-mono, up-mono, up-lt, down-mono, down-lt, length-le, length-mono}
 use Rattle.netlist.specs.Limits.{maxWidth}
 use Rattle.netlist.specs.Kinds.{usesOf, widthRules}
 use Rattle.netlist.specs.Layout.{Design}
@@ -22,7 +22,6 @@ use Rattle.rules.specs.Fit.{widthRulesAt}
 use Rattle.rules.specs.Sound.{Sound}
 use Rattle.rules.proofs.SoundLaws.{OperandsBelow, operands-below, word-64}
 use Rattle.signal.specs.Asks.{upToHighest, ifAny, allIfAny, upWithin, asksOf, demandOf, asked, Granted, Fit}
-use Rattle.signal.specs.AskLists.{NoBit}
 
 -- the bits of m if D is not 0: no other bits, and more of D asks for no less
 any-within : (m D : ℕ) → Within (ifAny m D) m
@@ -58,7 +57,7 @@ module _ (at : ℕ → Record) (M : ℕ → ℕ) {D E : ℕ} (h : Within D E) (l
   asks-grow (And a b) g = (within-trans h (g .0), (within-trans h (g .1 .0), tt))
   asks-grow (Or a b) g = (within-trans h (g .0), (within-trans h (g .1 .0), tt))
   asks-grow (Xor a b) g = (within-trans h (g .0), (within-trans h (g .1 .0), tt))
-  asks-grow (Mux a b c) g = (g .0, (within-trans h (g .1 .0), (within-trans h (g .1 .1 .0), tt)))
+  asks-grow (Mux a b c) g = (within-trans (any-mono _ D E h) (g .0), (within-trans h (g .1 .0), (within-trans h (g .1 .1 .0), tt)))
   asks-grow (Add a b) g = (carry (g .0), (carry (g .1 .0), tt))
   asks-grow (Sub a b) g = (carry (g .0), (carry (g .1 .0), tt))
   asks-grow (Mul a b) g = (carry (g .0), (carry (g .1 .0), tt))
@@ -108,7 +107,7 @@ module _ (d : Design) (w D : ℕ) (h : D < 2 ^ w) where
   asks-fit (Xor a b) o n r = (o .a, same-width a (r .0), (o .b, same-width b (r .1 .0), tt))
   asks-fit (Mux a b c) o n r = (
     o .a,
-    one-bit _ (d .at a .width) (lit< tt) (omega arith),
+    within-trans (any-within _ D) (one-bit _ (d .at a .width) (lit< tt) (omega arith)),
     (o .b, same-width b (r .1 .0), (o .c, same-width c (r .1 .1 .0), tt)),
   )
   asks-fit (Add a b) o n r = (o .a, low-bits a (r .0), (o .b, low-bits b (r .1 .0), tt))
@@ -124,37 +123,6 @@ module _ (d : Design) (w D : ℕ) (h : D < 2 ^ w) where
     tt,
   )
   asks-fit (SignedBelow a b) o n r = (o .a, any-within _ D, (o .b, any-within _ D, tt))
-
-low-none : (n : ℕ) → n ≡ 0 → lowMask n ≡ 0
-low-none n = ap lowMask
-
-none-highest : upToHighest 0 ≡ 0
-none-highest = low-none _ (let z = length-zero in omega arith)
-
-none-up : (w k : ℕ) → upWithin w k 0 ≡ 0
-none-up w k = ap (λ (n : ℕ). n % 2 ^ 64 % 2 ^ w) (zero-mul (2 ^ k)) ∙ zero-mod (2 ^ w)
-
--- with D 0, a kind with fewer operands than a mux asks for no bit
-pub asks-quiet : (at : ℕ → Record) (kind : Kind) → usesOf kind .count < 3 → NoBit (asksOf at kind 0)
-asks-quiet at Input h = tt
-asks-quiet at (Constant k) h = tt
-asks-quiet at (Register a k) h = (refl, tt)
-asks-quiet at (Output a) h = (refl, tt)
-asks-quiet at (Extract a k) h = (ap (λ (m : ℕ). m % 2 ^ 64) (zero-mul _), tt)
-asks-quiet at (Concat a b) h = (zero-div _, (zero-mod _, tt))
-asks-quiet at (And a b) h = (refl, (refl, tt))
-asks-quiet at (Or a b) h = (refl, (refl, tt))
-asks-quiet at (Xor a b) h = (refl, (refl, tt))
-asks-quiet at (Mux a b c) h = absurd (let z : 3 < 3 = h in omega arith)
-asks-quiet at (Add a b) h = (none-highest, (none-highest, tt))
-asks-quiet at (Sub a b) h = (none-highest, (none-highest, tt))
-asks-quiet at (Mul a b) h = (none-highest, (none-highest, tt))
-asks-quiet at (Equal a b) h = (refl, (refl, tt))
-asks-quiet at (Below a b) h = (refl, (refl, tt))
-asks-quiet at (LeftShift a k) h = (zero-div _, tt)
-asks-quiet at (RightShift a k) h = (none-up (at a .width) k, tt)
-asks-quiet at (ArithmeticRightShift a k) h = (ap₂ bitOr (none-up (at a .width) k) (ap (ifAny _) (zero-div (2 ^ (at a .width - k)))), tt)
-asks-quiet at (SignedBelow a b) h = (refl, (refl, tt))
 
 -- the two laws for the records of a sound design
 module _ (d : Design) (s : Sound d) (i : ℕ) (h : i < d .count) where

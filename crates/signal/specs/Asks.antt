@@ -53,8 +53,8 @@ asksOf at (Concat a b) D = ask a (down (at b .width) D) ∷ ask b (cut (at b .wi
 asksOf at (And a b) D = ask a D ∷ ask b D ∷ []
 asksOf at (Or a b) D = ask a D ∷ ask b D ∷ []
 asksOf at (Xor a b) D = ask a D ∷ ask b D ∷ []
--- "mux: the selector always has its bit, as in figure 6; b and c have D"
-asksOf at (Mux a b c) D = ask a 1 ∷ ask b D ∷ ask c D ∷ []
+-- "mux: b and c have D", and by #102 "a selector is cared for only when D of its mux is not 0"
+asksOf at (Mux a b c) D = ask a (ifAny 1 D) ∷ ask b D ∷ ask c D ∷ []
 -- "add, sub, mul: both have every bit from 0 to the highest one in D, and nothing if D is 0"
 asksOf at (Add a b) D = ask a (upToHighest D) ∷ ask b (upToHighest D) ∷ []
 asksOf at (Sub a b) D = ask a (upToHighest D) ∷ ask b (upToHighest D) ∷ []

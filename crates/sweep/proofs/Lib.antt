@@ -1,6 +1,5 @@
 -- The laws of sweeps, for the proofs of this crate.
 -- Assumes nothing.
 mod Marks
-mod NoBits
 mod SweepLaws
 mod ListedAsks

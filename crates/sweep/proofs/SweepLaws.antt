@@ -27,6 +27,7 @@ between-refl d masks f =
 
 -- what stays true while a sweep that began with `before` goes down to record i
 pub record Sweeping (d : Design) (before masks : List ℕ) (again i : ℕ) : Type 0 where
+  pub place : i ≤ d .count
   pub size : length masks ≡ d .count
   pub between : Between d before masks
   pub narrow : Inside (maskAt masks) (allBits d)
@@ -34,17 +35,17 @@ pub record Sweeping (d : Design) (before masks : List ℕ) (again i : ℕ) : Typ
   pub low : again ≤ d .count
   pub gained : onesSum d before + min 1 again ≤ onesSum d masks
 
-module _ (d : Design) (s : Sound d) (before masks : List ℕ) (again i : ℕ) (h : i < d .count) (w : Sweeping d before masks again (suc i)) where
+module _ (d : Design) (s : Sound d) (before masks : List ℕ) (again i : ℕ) (w : Sweeping d before masks again (suc i)) where
   xs : List Ask
   xs = asked (d .at) i (maskAt masks i)
 
   named : Named (length masks) xs
   unfolding xs
-  named = asked-named d s masks (w .size) i h (maskAt masks i)
+  named = asked-named d s masks (w .size) i (w .place) (maskAt masks i)
 
   granted : Granted xs (allBits d)
   unfolding xs
-  granted = closed-grants d s (all-closed d s (maskAt masks) (λ j k. w .narrow .each j)) masks (w .narrow) i h
+  granted = closed-grants d s (all-closed d s (maskAt masks) (λ j k. w .narrow .each j)) masks (w .narrow) i (w .place)
 
   marks : Marked d i again masks (grant xs masks) (marksOf i again xs masks)
   marks = marked-all d s i xs again masks (w .size) named (w .narrow) granted
@@ -72,13 +73,15 @@ module _ (d : Design) (s : Sound d) (before masks : List ℕ) (again i : ℕ) (h
       let f = w .gained in
       let r = marks .rises in
       let z = length-grant xs masks named in
+      let p = w .place in
       record {
+        place = omega arith;
         size = z ∙ w .size;
         between = record {
           size = z ∙ b .size;
           above = λ j. inside-trans (record { each = b .above }) (grant-above xs masks named) .each j;
           below = λ F c j.
-              grant-least F xs masks named (record { each = b .below F c }) (closed-grants d s c masks (record { each = b .below F c }) i h) .each j;
+              grant-least F xs masks named (record { each = b .below F c }) (closed-grants d s c masks (record { each = b .below F c }) i (w .place)) .each j;
         };
         narrow = grant-least (allBits d) xs masks named (w .narrow) granted;
         settled = λ j a b k. settled-after j a b k (eq-or-lt-of-le a);
@@ -86,10 +89,29 @@ module _ (d : Design) (s : Sound d) (before masks : List ℕ) (again i : ℕ) (h
         gained = omega arith;
       }
 
--- before the first record, and after the last one
-pub sweep-begins : (d : Design) (masks : List ℕ) (top : ℕ) → Fits d masks → ((i : ℕ) → top ≤ i → i < d .count → Settled d masks i) → Sweeping d masks masks 0 top
-sweep-begins d masks top f t =
+-- a record that is settled as it stands may be passed by
+pub sweep-past : (d : Design) (before masks : List ℕ) (again i : ℕ) → Sweeping d before masks again (suc i) → Settled d masks i → Sweeping d before masks again i
+sweep-past d before masks again i w g =
+    let p = w .place in
     record {
+      place = omega arith;
+      size = w .size;
+      between = w .between;
+      narrow = w .narrow;
+      settled = λ j a b k. past j b k (eq-or-lt-of-le a);
+      low = w .low;
+      gained = w .gained;
+    }
+  where
+    past : (j : ℕ) → again ≤ j → j < d .count → (i ≡ j) ⊎ (i < j) → Settled d masks j
+    past j b k (inl e) = subst (Settled d masks) e g
+    past j b k (inr l) = w .settled j l b k
+
+-- before the first record, and after the last one
+pub sweep-begins : (d : Design) (masks : List ℕ) (top : ℕ) → top ≤ d .count → Fits d masks → ((i : ℕ) → top ≤ i → i < d .count → Settled d masks i) → Sweeping d masks masks 0 top
+sweep-begins d masks top l f t =
+    record {
+      place = l;
       size = f .size;
       between = between-refl d masks f;
       narrow = list-inside (d .count) masks (allBits d) (f .size) (f .narrow);

@@ -3,6 +3,7 @@
 use bits::mask::low_table;
 use demand::Asks;
 use demand::asked;
+use demand::demand_at;
 use signal::Ask;
 ghost use mathlib.Core.Path.{_≡_};
 ghost use Prim.Native.Nat.{_+_, _<_, _^_, max};
@@ -66,8 +67,8 @@ fn join_all(list: &mut [u64], asks: Asks, i: usize, again: usize) -> usize
     join(list, asks.third, i, second)
 }
 
-// One sweep from record `top` - 1 down to 0. The records from `top` on are settled already. The answer is where the next sweep
-// starts: one more than the highest record that gained a bit after this one had passed it, or 0.
+// One sweep from record `top` - 1 down to 0. The records from `top` on are settled already, and a record with D 0 asks for no
+// bit. The answer is where the next sweep starts: one more than the highest record that gained a bit after this one had passed it, or 0.
 fn sweep(file: &[u8], list: &mut [u64], low: &[u64], top: usize) -> usize
     requires { ⌜ Ready (now file) (now list) top × (now low ≡ lowMasks) ⌝ }
     ensures { λ r. ⌜ Swept (designOf (now (file .entry))) (now (list .entry)) (now (list .exit)) r ⌝ }
@@ -76,7 +77,11 @@ fn sweep(file: &[u8], list: &mut [u64], low: &[u64], top: usize) -> usize
     let mut i = top;
     while 0 < i {
         i -= 1;
-        let asks = asked(file, low, i, list[i]);
+        let d = demand_at(file, i, list[i]);
+        if d == 0 {
+            continue;
+        }
+        let asks = asked(file, low, i, d);
         again = join_all(list, asks, i, again);
     }
     again

@@ -1,6 +1,5 @@
--- `demand::all_if_any` meets its contract: the test for 0 is the definition's.
+-- `demand::all_if_any` meets its contract: all bits are the low mask of the width.
 -- Assumes nothing.
-use borrow.Author.Tests.{eq-eqb, ne-eqb}
 use borrow.Author.Needs.{needs}
 use Rattle.demand.proofs.all_if_any.Statement.{statement}
 use Rattle.demand.proofs.all_if_any.Tie as tie
@@ -8,11 +7,11 @@ use Rattle.demand.proofs.all_if_any.Tie as tie
 low-mask-requires : tie.Need-low-mask-requires
 low-mask-requires c κs = search needs
 
-returns : tie.Need-returns
-returns c = rw (eq-eqb (c .before .args .d) 0 (c .if1 .taken))
+if-any-requires : tie.Need-if-any-requires
+if-any-requires c κs = tt
 
-returns-2 : tie.Need-returns-2
-returns-2 c = rw (ne-eqb (c .before .before .args .d) 0 (c .before .if1 .left)) (c .low-mask .ensures)
+returns : tie.Need-returns
+returns c = rw (← c .before .low-mask .ensures) (c .if-any .ensures)
 
 pub all-if-any-spec : {M : Type 1} → statement M
-all-if-any-spec = tie.close (tie.spec low-mask-requires returns returns-2)
+all-if-any-spec = tie.close (tie.spec low-mask-requires if-any-requires returns)

@@ -7,7 +7,7 @@ use Rattle.bits.specs.Words.{up, down}
 use Rattle.netlist.specs.declared.record.Kind.{Kind}
 use Rattle.netlist.specs.Kinds.{usesOf}
 use Rattle.netlist.specs.Layout.{designOf, widthAt, recordAt}
-use Rattle.signal.specs.Asks.{upWithin}
+use Rattle.signal.specs.Asks.{ifAny, upWithin}
 use Rattle.demand.specs.Held.{Readable}
 use Rattle.demand.proofs.of_kind.Statement.{statement}
 use Rattle.demand.proofs.of_kind.Tie as tie
@@ -84,6 +84,9 @@ two-requires-3 c κs = tt
 
 enum-known-kind-8 : tie.Need-enum-known-kind-8
 enum-known-kind-8 c = c .match .keys10
+
+if-any-requires : tie.Need-if-any-requires
+if-any-requires c κs = tt
 
 three-requires : tie.Need-three-requires
 three-requires c κs = tt
@@ -210,7 +213,10 @@ returns-9 : tie.Need-returns-9
 returns-9 c = rw (c .before .before .kind7 .given .1) (c .two3 .ensures)
 
 returns-10 : tie.Need-returns-10
-returns-10 c = rw (c .before .before .kind8 .given .1) (c .three .ensures)
+returns-10 c =
+    let args = c .before .before .before .before .before .before .before .args in
+    let selector : c .before .if-any .result ≡ ifAny 1 (args .d) = c .before .if-any .ensures in
+    rw (c .before .before .before .kind8 .given .1, ← selector) (c .three .ensures)
 
 returns-11 : tie.Need-returns-11
 returns-11 c = rw (c .before .before .kind9 .given .1) (c .of-carries .ensures)
@@ -279,6 +285,7 @@ of-kind-spec =
     enum-known-kind-7
     two-requires-3
     enum-known-kind-8
+    if-any-requires
     three-requires
     enum-known-kind-9
     of-carries-requires

@@ -1,94 +1,115 @@
--- `sweep::sweep` meets its contract: a turn joins what record i asks, and `Sweeping` is kept.
+-- `sweep::sweep` meets its contract: a turn passes a record with D 0 by, or joins what it asks, and `Sweeping` is kept.
 -- Assumes nothing.
 use mathlib.Core.List.{List}
-use mathlib.Core.Path.{_≡_, sym, subst, _∙_}
-use Prim.Native.Nat.{ℕ, suc, _-_, _≤_, _<_}
+use mathlib.Core.Path.{_≡_, sym, ap, subst, _∙_}
+use Prim.Native.Nat.{ℕ, suc, _-_, _<_}
 use native.Mathlib.Omega.{arith}
+use lib.ListN.{length}
 use denote.Ref.{now}
-use Rattle.netlist.specs.Layout.{designOf, countOf, Design}
+use Rattle.netlist.specs.Layout.{designOf, Design}
 use Rattle.rules.specs.Sound.{Sound}
-use Rattle.signal.specs.Asks.{asked}
-use Rattle.demand.specs.declared.Asks.{Asks}
-use Rattle.demand.specs.Held.{listed, Serves}
+use Rattle.rules.proofs.Acceptance.{holds-record}
+use Rattle.signal.specs.Asks.{asksOf, demandOf, asked}
+use Rattle.signal.specs.AskLists.{Named}
+use Rattle.signal.specs.declared.Ask.{Ask}
+use Rattle.signal.proofs.AskedNothing.{asked-none}
 use Rattle.care.specs.Least.{grant, maskAt}
 use Rattle.care.proofs.Rounds.{asked-named}
 use Rattle.sweep.specs.Sweep.{marksOf}
-use Rattle.sweep.proofs.NoBits.{serves-grant, serves-marks, serves-named}
-use Rattle.sweep.proofs.SweepLaws.{Sweeping, sweep-begins, sweep-step, sweep-ends}
+use Rattle.sweep.proofs.SweepLaws.{Sweeping, sweep-begins, sweep-step, sweep-past, sweep-ends}
 use Rattle.sweep.proofs.sweep.Statement.{statement}
 use Rattle.sweep.proofs.sweep.Tie as tie
 
--- a turn: what the calls promise, put into the step of the sweep
-turn : (d : Design) → Sound d → (before masks after : List ℕ) (again next i j : ℕ) (r : Asks) → i < d .count → j ≡ suc i
-    → Serves r (asked (d .at) i (maskAt masks i)) → after ≡ grant (listed r) masks → next ≡ marksOf i again (listed r) masks → Sweeping d before masks again j
-    → Sweeping d before after next i
-turn d s before masks after again next i j r h k e a m w =
-    let xs = asked (d .at) i (maskAt masks i) in
-    let f = sym (a ∙ serves-grant r xs masks e) in
-    let g = sym (m ∙ serves-marks i again r xs masks e) in
-    subst (λ (l : List ℕ). Sweeping d before l next i) f
-    (subst (λ (n : ℕ). Sweeping d before (grant xs masks) n i) g
-    (sweep-step d s before masks again i h (subst (λ (n : ℕ). Sweeping d before masks again n) k w)))
+-- a turn at the record below j, whose D has been worked out as D
+module _ (d : Design) (s : Sound d) (before masks : List ℕ) (again j D : ℕ) (h : 0 < j) (w : Sweeping d before masks again j) (q : D ≡ demandOf (d .at (j - 1)) (maskAt masks (j - 1))) where
+  here : Sweeping d before masks again (suc (j - 1))
+  here = subst (λ (n : ℕ). Sweeping d before masks again n) (omega arith) w
+
+  passed : D ≡ 0 → Sweeping d before masks again (j - 1)
+  passed e = sweep-past d before masks again (j - 1) here (asked-none (d .at) (maskAt masks) (j - 1) _ (sym q ∙ e))
+
+  module _ (xs : List Ask) (e : xs ≡ asksOf (d .at) (d .at (j - 1) .kind) D) where
+    read : xs ≡ asked (d .at) (j - 1) (maskAt masks (j - 1))
+    unfolding asked
+    read = e ∙ ap (asksOf (d .at) (d .at (j - 1) .kind)) q
+
+    named : Named (length masks) xs
+    named = rw read (asked-named d s masks (here .size) (j - 1) (here .place) (maskAt masks (j - 1)))
+
+    turn : (after : List ℕ) (next : ℕ) → after ≡ grant xs masks → next ≡ marksOf (j - 1) again xs masks → Sweeping d before after next (j - 1)
+    turn after next a m = rw (a, m, read) (sweep-step d s before masks again (j - 1) here)
 
 abbrev Inv-loop : tie.InvT-loop
-Inv-loop file list₀ low top again₀ i₀ list again i = (i ≤ top) × Sweeping (designOf file) list₀ list again i
+Inv-loop file list₀ low top again₀ i₀ list again i = Sweeping (designOf file) list₀ list again i
 
 abbrev μ-loop : tie.MeasureT-loop
 μ-loop file list₀ low top again₀ i₀ list again i = i
 
 loop-holds : tie.Need-loop-holds Inv-loop μ-loop
 unfolding designOf
-loop-holds c = let args = c .before .before .before .args in
-    let p = c .before .before .before .pre .0 in (omega arith, sweep-begins (designOf (now (args .file))) _ (args .top) (p .fits) (p .settled))
+loop-holds c = let p = c .before .before .before .pre .0 in sweep-begins _ _ _ (p .low) (p .fits) (p .settled)
 
 sub-i : tie.Need-sub-i Inv-loop μ-loop
 sub-i c = omega arith
 
-mul-asked : tie.Need-mul-asked Inv-loop μ-loop
+mul-demand-at : tie.Need-mul-demand-at Inv-loop μ-loop
 unfolding designOf
-mul-asked c = let f = c .before .before .before .before .before .pre .0 .accepted .sound .few in let l = c .before .before .before .before .before .pre .0 .low in let i = c .before .loop .inv .0 in omega arith
+mul-demand-at c = let f = c .before .before .before .before .before .pre .0 .accepted .sound .few in let l = c .before .loop .inv .place in omega arith
 
-slice-read-asked : tie.Need-slice-read-asked Inv-loop μ-loop
+slice-read-demand-at : tie.Need-slice-read-demand-at Inv-loop μ-loop
+slice-read-demand-at c = let e = c .before .before .loop .inv .size in let l = c .before .before .loop .inv .place in omega arith
+
+demand-at-requires : tie.Need-demand-at-requires Inv-loop μ-loop
 unfolding designOf
-slice-read-asked c = let e = c .before .before .loop .inv .1 .size in let l = c .before .before .before .before .before .before .pre .0 .low in let i = c .before .before .loop .inv .0 in omega arith
-
-asked-requires : tie.Need-asked-requires Inv-loop μ-loop
-asked-requires c κs = let pre = c .before .before .before .before .before .before .pre in
-    (pre .0 .accepted, let l = pre .0 .low in omega arith, pre .1)
-
-join-all-requires : tie.Need-join-all-requires Inv-loop μ-loop
-unfolding designOf
-join-all-requires c κs = let loop = c .before .before .before .before .loop in
-    let f = now (c .before .before .before .before .before .before .before .before .args .file) in
-    let w = loop .inv .1 in
-    let h : loop .i - 1 < countOf f = let l = c .before .before .before .before .before .before .before .before .pre .0 .low in let i = loop .inv .0 in let t = c .before .before .before .loop-test .taken in omega arith in
-    serves-named _ (c .before .asked .result) _ (c .before .asked .ensures) (asked-named (designOf f)
-    (c .before .before .before .before .before .before .before .before .pre .0 .accepted .sound) (loop .list) (w .size) (loop .i - 1) h
-    (maskAt (loop .list) (loop .i - 1)))
+demand-at-requires c κs =
+    holds-record _ (c .before .before .before .before .before .before .pre .0 .accepted) _
+    (let l = c .before .before .loop .inv .place in let t = c .before .loop-test .taken in omega arith)
 
 loop-less : tie.Need-loop-less Inv-loop μ-loop
 loop-less c = omega arith
 
 loop-again : tie.Need-loop-again Inv-loop μ-loop
+loop-again c =
+    let loop = c .before .before .before .before .loop in
+    passed (designOf (now (c .before .before .before .before .before .before .before .before .args .file)))
+    (c .before .before .before .before .before .before .before .before .pre .0 .accepted .sound) _ (loop .list) _ (loop .i) _
+    (c .before .before .before .loop-test .taken) (loop .inv) (c .before .demand-at .ensures) (c .if1 .taken)
+
+asked-requires : tie.Need-asked-requires Inv-loop μ-loop
 unfolding designOf
-loop-again c = let f = now (c .before .before .before .before .before .before .before .before .before .before .before .args .file) in
-    let l = c .before .before .before .before .before .before .before .loop in
-    let h : l .i - 1 < countOf f = let b = c .before .before .before .before .before .before .before .before .before .before .before .pre .0 .low in let i = l .inv .0 in let t = c .before .before .before .before .before .before .loop-test .taken in omega arith in (
-      let i = l .inv .0 in omega arith,
-      turn (designOf f) (c .before .before .before .before .before .before .before .before .before .before .before .pre .0 .accepted .sound) _ (l .list) _
-          (l .again) _ (l .i - 1) (l .i) (c .before .before .before .before .asked .result) h
-          (let t = c .before .before .before .before .before .before .loop-test .taken in omega arith) (c .before .before .before .before .asked .ensures)
-          (c .before .before .join-all .ensures .0) (c .before .before .join-all .ensures .1) (l .inv .1),
-    )
+asked-requires c κs =
+    let pre = c .before .before .before .before .before .before .before .before .pre in
+    let t = c .before .before .before .loop-test .taken in
+    (pre .0 .accepted, let l = c .before .before .before .before .loop .inv .place in omega arith, pre .1)
+
+join-all-requires : tie.Need-join-all-requires Inv-loop μ-loop
+join-all-requires c κs =
+    let loop = c .before .before .before .before .before .before .loop in
+    named (designOf (now (c .before .before .before .before .before .before .before .before .before .before .args .file)))
+    (c .before .before .before .before .before .before .before .before .before .before .pre .0 .accepted .sound) _ (loop .list) _ (loop .i) _
+    (c .before .before .before .before .before .loop-test .taken) (loop .inv) (c .before .before .before .demand-at .ensures) _ (c .before .asked .ensures)
+
+loop-less-2 : tie.Need-loop-less-2 Inv-loop μ-loop
+loop-less-2 c = omega arith
+
+loop-again-2 : tie.Need-loop-again-2 Inv-loop μ-loop
+loop-again-2 c =
+    let loop = c .before .before .before .before .before .before .before .before .before .loop in
+    let joins = c .before .before .join-all .ensures in
+    turn (designOf (now (c .before .before .before .before .before .before .before .before .before .before .before .before .before .args .file)))
+    (c .before .before .before .before .before .before .before .before .before .before .before .before .before .pre .0 .accepted .sound) _ (loop .list) _ (loop .i) _
+    (c .before .before .before .before .before .before .before .before .loop-test .taken) (loop .inv) (c .before .before .before .before .before .before .demand-at .ensures) _
+    (c .before .before .before .before .asked .ensures) _ _ (joins .0) (joins .1)
 
 same-length : tie.Need-same-length Inv-loop μ-loop
-same-length c = c .before .loop .inv .1 .size ∙ sym (c .before .before .before .before .before .pre .0 .fits .size)
+same-length c = c .before .loop .inv .size ∙ sym (c .before .before .before .before .before .pre .0 .fits .size)
 
 returns : tie.Need-returns Inv-loop μ-loop
-returns c = let args = c .before .before .before .before .before .args in
+returns c =
+    let args = c .before .before .before .before .before .args in
     let loop = c .before .loop in
     sweep-ends _ _ _ _ (subst (λ (n : ℕ). Sweeping (designOf (now (args .file))) (now (args .list)) (loop .list) (loop .again) n)
-    (let t = c .loop-test .left in omega arith) (loop .inv .1))
+    (let t = c .loop-test .left in omega arith) (loop .inv))
 
 pub sweep-spec : {M : Type 1} → statement M
 sweep-spec =
@@ -98,11 +119,14 @@ sweep-spec =
     μ-loop
     loop-holds
     sub-i
-    mul-asked
-    slice-read-asked
-    asked-requires
-    join-all-requires
+    mul-demand-at
+    slice-read-demand-at
+    demand-at-requires
     loop-less
     loop-again
+    asked-requires
+    join-all-requires
+    loop-less-2
+    loop-again-2
     same-length
     returns)
