@@ -78,11 +78,10 @@ fn sweep(file: &[u8], list: &mut [u64], low: &[u64], top: usize) -> usize
     while 0 < i {
         i -= 1;
         let d = demand_at(file, i, list[i]);
-        if d == 0 {
-            continue;
+        if d != 0 {
+            let asks = asked(file, low, i, d);
+            again = join_all(list, asks, i, again);
         }
-        let asks = asked(file, low, i, d);
-        again = join_all(list, asks, i, again);
     }
     again
 }

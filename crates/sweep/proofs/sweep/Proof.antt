@@ -65,16 +65,6 @@ demand-at-requires c κs =
     holds-record _ (c .before .before .before .before .before .before .pre .0 .accepted) _
     (let l = c .before .before .loop .inv .place in let t = c .before .loop-test .taken in omega arith)
 
-loop-less : tie.Need-loop-less Inv-loop μ-loop
-loop-less c = omega arith
-
-loop-again : tie.Need-loop-again Inv-loop μ-loop
-loop-again c =
-    let loop = c .before .before .before .before .loop in
-    passed (designOf (now (c .before .before .before .before .before .before .before .before .args .file)))
-    (c .before .before .before .before .before .before .before .before .pre .0 .accepted .sound) _ (loop .list) _ (loop .i) _
-    (c .before .before .before .loop-test .taken) (loop .inv) (c .before .demand-at .ensures) (c .if1 .taken)
-
 asked-requires : tie.Need-asked-requires Inv-loop μ-loop
 unfolding designOf
 asked-requires c κs =
@@ -89,17 +79,27 @@ join-all-requires c κs =
     (c .before .before .before .before .before .before .before .before .before .before .pre .0 .accepted .sound) _ (loop .list) _ (loop .i) _
     (c .before .before .before .before .before .loop-test .taken) (loop .inv) (c .before .before .before .demand-at .ensures) _ (c .before .asked .ensures)
 
-loop-less-2 : tie.Need-loop-less-2 Inv-loop μ-loop
-loop-less-2 c = omega arith
+loop-less : tie.Need-loop-less Inv-loop μ-loop
+loop-less c = omega arith
 
-loop-again-2 : tie.Need-loop-again-2 Inv-loop μ-loop
-loop-again-2 c =
+loop-again : tie.Need-loop-again Inv-loop μ-loop
+loop-again c =
     let loop = c .before .before .before .before .before .before .before .before .before .loop in
     let joins = c .before .before .join-all .ensures in
     turn (designOf (now (c .before .before .before .before .before .before .before .before .before .before .before .before .before .args .file)))
     (c .before .before .before .before .before .before .before .before .before .before .before .before .before .pre .0 .accepted .sound) _ (loop .list) _ (loop .i) _
     (c .before .before .before .before .before .before .before .before .loop-test .taken) (loop .inv) (c .before .before .before .before .before .before .demand-at .ensures) _
     (c .before .before .before .before .asked .ensures) _ _ (joins .0) (joins .1)
+
+loop-less-2 : tie.Need-loop-less-2 Inv-loop μ-loop
+loop-less-2 c = omega arith
+
+loop-again-2 : tie.Need-loop-again-2 Inv-loop μ-loop
+loop-again-2 c =
+    let loop = c .before .before .before .before .loop in
+    passed (designOf (now (c .before .before .before .before .before .before .before .before .args .file)))
+    (c .before .before .before .before .before .before .before .before .pre .0 .accepted .sound) _ (loop .list) _ (loop .i) _
+    (c .before .before .before .loop-test .taken) (loop .inv) (c .before .demand-at .ensures) (c .if1 .left)
 
 same-length : tie.Need-same-length Inv-loop μ-loop
 same-length c = c .before .loop .inv .size ∙ sym (c .before .before .before .before .before .pre .0 .fits .size)
@@ -122,10 +122,10 @@ sweep-spec =
     mul-demand-at
     slice-read-demand-at
     demand-at-requires
-    loop-less
-    loop-again
     asked-requires
     join-all-requires
+    loop-less
+    loop-again
     loop-less-2
     loop-again-2
     same-length

@@ -7,9 +7,9 @@ use native.Mathlib.Omega.{arith}
 use borrow.Author.Needs.{needs}
 use borrow.Author.Tests.{eqb-true, eqb-false}
 use denote.Ref.{now}
-use lib.Bits.{bitAnd, bitXor, and-le-l, and-le-r, xor-self, xor-add-and, xor-lt}
+use lib.Bits.{bitXor, and-le-l, and-le-r, xor-self, xor-add-and, xor-lt}
 use lib.Dec.{eqb, lit<}
-use Rattle.netlist.specs.Layout.{recordStart, codeAt, fieldsAt, byteAt, recordAt, designOf}
+use Rattle.netlist.specs.Layout.{codeAt, fieldsAt, byteAt, recordAt, designOf}
 use Rattle.netlist.proofs.KindLaws.{register-code}
 use Rattle.netlist.proofs.layout.register_at.Statement.{statement}
 use Rattle.netlist.proofs.layout.register_at.Tie as tie
