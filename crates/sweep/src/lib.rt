@@ -56,10 +56,10 @@ fn join_all(list: &mut [u64], asks: Asks, i: usize, again: usize) -> usize
     if count == 0 {
         return again;
     }
-    let first = join(list, asks.first, i, again);
     if count == 1 {
-        return first;
+        return join(list, asks.first, i, again);
     }
+    let first = join(list, asks.first, i, again);
     let second = join(list, asks.second, i, first);
     if count == 2 {
         return second;

@@ -32,8 +32,7 @@ returns c = let a = c .before .before .args in (
 )
 
 join-requires : tie.Need-join-requires
-join-requires c κs = let r = c .before .before .before .args .asks in named-first (r .first) (r .second) (r .third) _ (r .count) (c .before .if1 .left)
-    (c .before .before .before .pre)
+join-requires c κs = let r = c .before .before .before .before .args .asks in named-first (r .first) (r .second) (r .third) _ (r .count) (c .before .before .if1 .left) (c .before .before .before .before .pre)
 
 same-length : tie.Need-same-length
 same-length c = search needs
@@ -41,19 +40,23 @@ same-length c = search needs
 returns-2 : tie.Need-returns-2
 unfolding grant marksOf
 returns-2 c = let a = c .before .before .before .before .before .before .before .args in
-    let l = now (a .list) in (
-      c .before .before .before .join .ensures .0 ∙ ap (λ (k : ℕ). grant (counted (a .asks) k) l) (sym (c .if2 .taken)),
-      c .before .before .before .join .ensures .1 ∙ ap (λ (k : ℕ). marksOf (a .i) (a .again) (counted (a .asks) k) l) (sym (c .if2 .taken)),
+    let l = now (a .list) in
+    let first = c .before .before .join .ensures in
+    let one = sym (c .before .before .before .before .if2 .taken) in (
+      first .0 ∙ ap (λ (k : ℕ). grant (counted (a .asks) k) l) one,
+      first .1 ∙ ap (λ (k : ℕ). marksOf (a .i) (a .again) (counted (a .asks) k) l) one,
     )
 
 join-requires-2 : tie.Need-join-requires-2
-join-requires-2 c κs = let args = c .before .before .before .before .before .before .before .before .args in
+join-requires-2 c κs = let r = c .before .before .before .before .args .asks in named-first (r .first) (r .second) (r .third) _ (r .count) (c .before .before .if1 .left) (c .before .before .before .before .pre)
+
+join-requires-3 : tie.Need-join-requires-3
+join-requires-3 c κs = let args = c .before .before .before .before .before .before .before .before .args in
     let r = args .asks in
-    let l = now (args .list) in
     let p = c .before .before .before .before .before .before .before .before .pre in
-    kept-in l _ (r .first) (r .second .operand) (named-first (r .first) (r .second) (r .third) _ (r .count)
-    (c .before .before .before .before .before .before .if1 .left) p) (c .before .before .before .before .join .ensures .0)
-    (named-second (r .first) (r .second) (r .third) _ (r .count) (c .before .before .before .before .before .before .if1 .left) (c .before .if2 .left) p)
+    let some = c .before .before .before .before .before .before .if1 .left in
+    kept-in (now (args .list)) _ (r .first) (r .second .operand) (named-first (r .first) (r .second) (r .third) _ (r .count) some p) (c .before .before .before .join2 .ensures .0)
+    (named-second (r .first) (r .second) (r .third) _ (r .count) some (c .before .before .before .before .before .if2 .left) p)
 
 same-length-2 : tie.Need-same-length-2
 same-length-2 c = search needs
@@ -62,28 +65,27 @@ returns-3 : tie.Need-returns-3
 unfolding grant marksOf
 returns-3 c = let a = c .before .before .before .before .before .before .before .before .before .before .before .before .args in
     let l = now (a .list) in
-    let first = c .before .before .before .before .before .before .before .before .join .ensures in
-    let second = c .before .before .before .join2 .ensures in (
-      second .0 ∙ ap (λ (m : List ℕ). joined m (a .asks .second)) (first .0) ∙ ap (λ (k : ℕ). grant (counted (a .asks) k) l) (sym (c .if3 .taken)),
+    let first = c .before .before .before .before .before .before .before .join2 .ensures in
+    let second = c .before .before .before .join3 .ensures in
+    let two = sym (c .if3 .taken) in (
+      second .0 ∙ ap (λ (m : List ℕ). joined m (a .asks .second)) (first .0) ∙ ap (λ (k : ℕ). grant (counted (a .asks) k) l) two,
       second .1 ∙ ap₂ (λ (m : List ℕ) (g : ℕ). markFor (a .i) g m (a .asks .second)) (first .0) (first .1)
-          ∙ ap (λ (k : ℕ). marksOf (a .i) (a .again) (counted (a .asks) k) l) (sym (c .if3 .taken)),
+          ∙ ap (λ (k : ℕ). marksOf (a .i) (a .again) (counted (a .asks) k) l) two,
     )
 
-join-requires-3 : tie.Need-join-requires-3
-join-requires-3 c κs = let args = c .before .before .before .before .before .before .before .before .before .before .before .before .before .args in
+join-requires-4 : tie.Need-join-requires-4
+join-requires-4 c κs = let args = c .before .before .before .before .before .before .before .before .before .before .before .before .before .args in
     let r = args .asks in
     let l = now (args .list) in
     let p = c .before .before .before .before .before .before .before .before .before .before .before .before .before .pre in
-    let x = named-first (r .first) (r .second) (r .third) _ (r .count) (c .before .before .before .before .before .before .before .before .before .before .before .if1 .left) p in
-    let e = c .before .before .before .before .before .before .before .before .before .join .ensures .0 in
-    let y = kept-in l _ (r .first) (r .second .operand) x e (named-second (r .first) (r .second) (r .third) _ (r .count)
-    (c .before .before .before .before .before .before .before .before .before .before .before .if1 .left)
-    (c .before .before .before .before .before .before .if2 .left) p) in
-    kept-in (c .before .before .before .before .before .before .before .before .before .join .last .0) (c .before .before .before .before .join2 .last .0)
-    (r .second) (r .third .operand) y (c .before .before .before .before .join2 .ensures .0)
-    (kept-in l _ (r .first) (r .third .operand) x e (named-third (r .first) (r .second) (r .third) _ (r .count)
-    (c .before .before .before .before .before .before .before .before .before .before .before .if1 .left)
-    (c .before .before .before .before .before .before .if2 .left) (c .before .if3 .left) p))
+    let some = c .before .before .before .before .before .before .before .before .before .before .before .if1 .left in
+    let more = c .before .before .before .before .before .before .before .before .before .before .if2 .left in
+    let x = named-first (r .first) (r .second) (r .third) _ (r .count) some p in
+    let e = c .before .before .before .before .before .before .before .before .join2 .ensures .0 in
+    kept-in (c .before .before .before .before .before .before .before .before .join2 .last .0) _ (r .second) (r .third .operand)
+    (kept-in l _ (r .first) (r .second .operand) x e (named-second (r .first) (r .second) (r .third) _ (r .count) some more p))
+    (c .before .before .before .before .join3 .ensures .0)
+    (kept-in l _ (r .first) (r .third .operand) x e (named-third (r .first) (r .second) (r .third) _ (r .count) some more (c .before .if3 .left) p))
 
 same-length-3 : tie.Need-same-length-3
 same-length-3 c = search needs
@@ -92,11 +94,11 @@ returns-4 : tie.Need-returns-4
 unfolding grant marksOf
 returns-4 c = let a = c .before .before .before .before .before .before .before .before .before .before .before .before .before .before .before .before .args in
     let l = now (a .list) in
-    let first = c .before .before .before .before .before .before .before .before .before .before .before .before .join .ensures in
-    let second = c .before .before .before .before .before .before .before .join2 .ensures in
-    let third = c .before .before .join3 .ensures in
     let r = a .asks in
-    let all = sym (three-of (r .first) (r .second) (r .third) (r .count) (c .before .before .before .before .before .before .before .before .before .before .before .before .before .before .if1 .left) (c .before .before .before .before .before .before .before .before .before .if2 .left) (c .before .before .before .before .if3 .left)) in
+    let first = c .before .before .before .before .before .before .before .before .before .before .before .join2 .ensures in
+    let second = c .before .before .before .before .before .before .before .join3 .ensures in
+    let third = c .before .before .join4 .ensures in
+    let all = sym (three-of (r .first) (r .second) (r .third) (r .count) (c .before .before .before .before .before .before .before .before .before .before .before .before .before .before .if1 .left) (c .before .before .before .before .before .before .before .before .before .before .before .before .before .if2 .left) (c .before .before .before .before .if3 .left)) in
     let lists = second .0 ∙ ap (λ (m : List ℕ). joined m (r .second)) (first .0) in
     let marks = second .1 ∙ ap₂ (λ (m : List ℕ) (g : ℕ). markFor (a .i) g m (r .second)) (first .0) (first .1) in (
       third .0 ∙ ap (λ (m : List ℕ). joined m (r .third)) lists ∙ ap (λ (xs : List Ask). grant xs l) all,
@@ -112,8 +114,9 @@ join-all-spec =
     same-length
     returns-2
     join-requires-2
+    join-requires-3
     same-length-2
     returns-3
-    join-requires-3
+    join-requires-4
     same-length-3
     returns-4)
