@@ -107,7 +107,7 @@ def shift_chain():
 
 
 def unread_mux():
-    """The selector is cared for, though nobody reads the mux."""
+    """Nobody reads the mux, so its selector is not cared for either."""
     d = Design()
     selector = d.input(1)
     one = d.input(8)

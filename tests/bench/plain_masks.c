@@ -34,7 +34,7 @@ static inline uint64_t asked_by_copies(const uint8_t *p, uint64_t d)
     return (d << p[8] & width_mask(p[1])) | copied << top;
 }
 
-/* What the record at `p` asks of its operands; D may be 0 for a mux only. */
+/* What the record at `p` asks of its operands; D is not 0. */
 static inline uint64_t ask_operands(const uint8_t *file, const uint8_t *p,
                                     uint64_t d, uint64_t *masks)
 {
@@ -89,7 +89,7 @@ static uint64_t sweep(const uint8_t *restrict file, uint32_t count,
 
         p -= RECORD_BYTES;
         d = masks[i] & load_64(p + 16);
-        if (d != 0 || p[0] == KIND_MUX)
+        if (d != 0)
             added |= ask_operands(file, p, d, masks);
     }
     return added;

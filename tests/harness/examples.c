@@ -36,9 +36,10 @@ const struct worked paper_examples[EXAMPLES] = {
       { 1, 0xf, 7, 0xf, 1, 1 } },
     { "example: two registers that read each other",
       DESIGN(REGISTER(8, 1, 1), REGISTER(8, 0, 2)), { 0, 0 } },
+    /* Request #102 took the selector's bit away. */
     { "example: a mux that nobody reads",
       DESIGN(INPUT(1), INPUT(8), INPUT(8), ROW(MUX, 8, 0, 1, 2, 0)),
-      { 1, 0, 0, 0 } },
+      { 0, 0, 0, 0 } },
     { "example: no records at all", NULL, 0, { 0 } }
 };
 

@@ -74,6 +74,7 @@ static void ask_for_bit(const uint8_t *file, const struct record *record,
         ask_for_moved(file, record, bit);
         return;
     case KIND_MUX:
+        ask(a, 0, 0);
         a = record->operand[2];
         break;
     case KIND_EQUAL:
@@ -90,8 +91,8 @@ static void ask_for_bit(const uint8_t *file, const struct record *record,
     ask(b, lowest, highest);
 }
 
-/* An output has all its bits and a mux its selector, whoever reads them. What
-   D asks for was asked before but for its new bits. */
+/* An output has all its bits. What D asks for was asked before but for its new
+   bits. */
 static void ask_for_all(const uint8_t *file, uint32_t number)
 {
     struct record record = read_record(file, number);
@@ -100,8 +101,6 @@ static void ask_for_all(const uint8_t *file, uint32_t number)
 
     if (record.kind == KIND_OUTPUT)
         ask(number, 0, record.width - 1u);
-    if (record.kind == KIND_MUX)
-        ask(record.operand[0], 0, 0);
     d = asked[number] & record.keep & ~passed_on[number];
     for (bit = 0; bit < 64 && d >> bit != 0; bit++)
         if (d >> bit & 1)

@@ -11,7 +11,7 @@
 #include "../harness/trial.h"
 #include "parts.h"
 
-enum { DESIGNS = 5200 };
+enum { DESIGNS = 6400 };
 
 /* What was met in records of each kind, in sums of any kind, and in designs. */
 static struct facts of_kind[KIND_COUNT], of_sums, of_designs;
@@ -58,6 +58,8 @@ static void note_asking(struct facts *facts, const struct netlist *net,
         fact(facts, "asks the high part", d != 0 && (d & low) == 0);
         fact(facts, "asks the low part", d != 0 && (d & ~low) == 0);
     }
+    if (record->kind == KIND_MUX)
+        fact(facts, "D has bits but not bit 0", d != 0 && (d & 1) == 0);
     if (kind_shifts(record->kind))
         note_shift(facts, record, d);
     if (record->kind >= KIND_ADD && record->kind <= KIND_MUL) {

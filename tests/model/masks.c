@@ -118,7 +118,7 @@ static void ask_operands(struct work *work, const uint8_t *file,
         ask_parts(work, operand, width_at(file, operand[1]), d);
         break;
     case KIND_MUX:
-        ask(work, operand[0], 1);
+        ask(work, operand[0], d != 0);
         ask(work, operand[1], d);
         ask(work, operand[2], d);
         break;
@@ -133,8 +133,8 @@ static void ask_operands(struct work *work, const uint8_t *file,
     }
 }
 
-/* Every record waits at first: an output begins with all its bits, and a mux
-   asks for its selector though nobody reads it. */
+/* An output has all its bits. No other record has a bit yet, and where D is 0
+   nothing is asked for, so outputs alone wait at first. */
 static void begin(struct work *work, const uint8_t *file, uint32_t count)
 {
     uint32_t i;
@@ -144,8 +144,7 @@ static void begin(struct work *work, const uint8_t *file, uint32_t count)
         work->mask[i] = 0;
         work->waits[i] = 0;
         if (kind_at(file, i) == KIND_OUTPUT)
-            work->mask[i] = width_mask(width_at(file, i));
-        let_wait(work, i);
+            ask(work, i, width_mask(width_at(file, i)));
     }
 }
 

@@ -12,8 +12,8 @@ from runs import (FULL, FULL_TEXT, MOST_RECORDS, Tests, cut, emptied, header,
 
 SEED = 20240611
 
-# The text that paper 01 prints, and what it says of its other examples: the
-# width and mask of each record.
+# The text that paper 01 prints, and what it says of its other examples, with
+# the mux as request #102 has it: the width and mask of each record.
 RAMP = """7 192 112
 0 32 000000000000ffff
 1 32 000000000000ffff
@@ -27,7 +27,7 @@ PAPER = {
     "ramp-high": [(32, 0xffff)] * 4 + [(32, 0xff00), (8, 0xff), (8, 0xff)],
     "counter": [(8, 0)] * 3,
     "shift-chain": [(1, 1), (4, 15), (3, 7), (4, 15), (1, 1), (1, 1)],
-    "unread-mux": [(1, 1)] + [(8, 0)] * 3,
+    "unread-mux": [(1, 0)] + [(8, 0)] * 3,
 }
 
 

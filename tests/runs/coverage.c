@@ -30,7 +30,7 @@ void runs_note_pair(const struct masked *masked, unsigned sort,
         "a state differed outside its mask",
         "a state differed in a bit of its mask that the keep word clears",
         "an output was not 0", "a start in mid-run",
-        "more cycles on end than registers"
+        "more cycles on end than registers", "the selector of a mux differed"
     };
     static const char *const refused_names[2][REFUSED_CYCLES] = {
         { "first run refused by 11", "by 12", "by 12 for its first state" },

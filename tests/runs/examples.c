@@ -136,6 +136,36 @@ static void signed_angle(void)
     }
 }
 
+/* Mode 5 selects the first word and any other mode the second, for a register
+   that keeps nothing. The output has the first word in every mode. */
+static void dead_mode(void)
+{
+    uint64_t words[5] = { 0, 0, 0, 0x5a, 0xc3 };
+
+    if (masked.masks[0] != 0 || masked.masks[2] != 0)
+        test_fail();
+    for (; words[0] < 8; words[0]++) {
+        cycle(words, 8, 0x5a);
+        if (sort == 0 && run_values(&run)[5] != words[words[0] == 5 ? 3 : 4])
+            test_fail();
+    }
+}
+
+static void make_dead_mode(struct netlist *net)
+{
+    netlist_clear(net);
+    netlist_input(net, 3);
+    netlist_add(net, KIND_CONSTANT, 3, 0, 0, 0, 5);
+    netlist_add(net, KIND_EQUAL, 1, 0, 1, 0, 0);
+    netlist_input(net, 8);
+    netlist_input(net, 8);
+    netlist_add(net, KIND_MUX, 8, 2, 3, 4, 0);
+    netlist_add(net, KIND_REGISTER, 8, 5, 0, 0, 0x77);
+    net->records[6].keep = 0;
+    netlist_add(net, KIND_XOR, 8, 3, 6, 0, 0);
+    netlist_output(net, 7, 0xff);
+}
+
 static void make_signed_angle(struct netlist *net)
 {
     netlist_clear(net);
@@ -169,6 +199,9 @@ void runs_examples(void)
     net->records[1].k = 4;
     each_sort("runs: a state too wide before the first start, later starts",
               starts);
+    make_dead_mode(net);
+    each_sort("runs: every mode, where it selects for a mux without effect",
+              dead_mode);
     make_signed_angle(net);
     each_sort("runs: a signed angle, words that differ in bits shifted out",
               signed_angle);

@@ -101,6 +101,16 @@ static void start_all(void)
     on_end = 0;
 }
 
+/* Whether the record is a mux that takes another operand in this run than in
+   the first, as only one with D 0 may. */
+static int selector_differed(unsigned sort, uint32_t number)
+{
+    uint32_t a = record(number)->operand[0];
+
+    return record(number)->kind == KIND_MUX
+        && run_values(&first)[a] != run_values(&seconds[sort])[a];
+}
+
 /* The claim, for the cycle that both have just made. */
 static void compare(unsigned sort)
 {
@@ -114,6 +124,7 @@ static void compare(unsigned sort)
 
         met[sort] |= one != two ? VALUE_DIFFERED : 0;
         met[sort] |= is_output && one != 0 ? OUTPUT_NOT_ZERO : 0;
+        met[sort] |= selector_differed(sort, i) ? SELECTOR_DIFFERED : 0;
         if (((one ^ two) & mask) == 0 && (!is_output || one == two)
             && (sort != TRIMMED || (two & ~mask) == 0))
             continue;

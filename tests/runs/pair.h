@@ -21,7 +21,8 @@ enum {
     OUTPUT_NOT_ZERO = 16,
     START_IN_MID_RUN = 32,
     MANY_CYCLES = 64,        /* more on end than there are registers, and any */
-    MET_BITS = 7
+    SELECTOR_DIFFERED = 128, /* that of a mux */
+    MET_BITS = 8
 };
 
 /* Notes a pair that has ended, and judges at the end whether the pairs met

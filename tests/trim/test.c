@@ -42,6 +42,10 @@ static const struct worked worked[] = {
       DESIGN(INPUT(8), KEEPING(0xcf, ARITHMETIC_SHIFT, 8, 0, 0, 0, 4),
              OUTPUT(8, 1, 0xf6)),
       { 0xe0, 0xc6, 0xf6 } },
+    { "a mode decoder for a mux that nobody reads keeps nothing",
+      DESIGN(INPUT(3), CONSTANT(3, 5), OF_TWO(EQUAL, 1, 0, 1), INPUT(8),
+             INPUT(8), ROW(MUX, 8, 2, 3, 4, 0), OUTPUT(8, 3, 0x3c)),
+      { 0, 0, 0, 0x3c, 0, 0, 0x3c } },
     { "a sum keeps one bit, its operands all bits below",
       DESIGN(INPUT(8), INPUT(8), OF_TWO(ADD, 8, 0, 1), OUTPUT(8, 2, 8)),
       { 0x0f, 0x0f, 8, 8 } }
