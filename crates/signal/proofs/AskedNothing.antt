@@ -1,10 +1,9 @@
 -- With D 0 no kind asks for a bit: whatever masks the operands have, all that is asked is granted.
 -- Assumes nothing. The crates above use this law and look at no kind.
-use mathlib.Core.Path.{_≡_, refl, sym, ap, ap₂, subst, _∙_}
-use Prim.Native.Nat.{ℕ, _-_, _%_, _^_}
+use mathlib.Core.Path.{_≡_, refl, sym, ap, subst}
+use Prim.Native.Nat.{ℕ, _%_, _^_}
 use native.Mathlib.Nat.{zero-mul, zero-div, zero-mod}
 use native.Mathlib.Omega.{arith}
-use lib.Bits.{bitOr}
 use Rattle.bits.specs.Masks.{Within}
 use Rattle.bits.specs.Words.{lowMask}
 use Rattle.bits.proofs.Order.{within-zero}
@@ -12,16 +11,14 @@ use Rattle.bits.proofs.Shifts.{length-zero}
 use Rattle.netlist.specs.declared.record.Kind.{Kind}
 use Rattle.netlist.specs.declared.record.Kind.the-variants.{Input, Constant, Register, Output, Extract, Concat, And, Or, Xor, Mux, Add, Sub, Mul, Equal, Below, LeftShift, RightShift, ArithmeticRightShift, SignedBelow}
 use Rattle.netlist.specs.declared.record.Record.{Record}
-use Rattle.signal.specs.Asks.{upToHighest, ifAny, upWithin, asksOf, demandOf, asked, Granted}
+use Rattle.signal.specs.Asks.{upToHighest, asksOf, demandOf, asked, Granted}
+use Rattle.signal.proofs.ShiftLaws.{up-none, arithmetic-none}
 
 low-none : (n : ℕ) → n ≡ 0 → lowMask n ≡ 0
 low-none n = ap lowMask
 
 highest-none : upToHighest 0 ≡ 0
 highest-none = low-none _ (let z = length-zero in omega arith)
-
-up-none : (w k : ℕ) → upWithin w k 0 ≡ 0
-up-none w k = ap (λ (n : ℕ). n % 2 ^ 64 % 2 ^ w) (zero-mul (2 ^ k)) ∙ zero-mod (2 ^ w)
 
 none : {m n : ℕ} → m ≡ 0 → Within m n
 none {n = n} e = subst (λ (m : ℕ). Within m n) (sym e) (within-zero n)
@@ -45,7 +42,7 @@ module _ (at : ℕ → Record) (M : ℕ → ℕ) where
   asks-none (Below a b) = (none refl, (none refl, tt))
   asks-none (LeftShift a k) = (none (zero-div _), tt)
   asks-none (RightShift a k) = (none (up-none (at a .width) k), tt)
-  asks-none (ArithmeticRightShift a k) = (none (ap₂ bitOr (up-none (at a .width) k) (ap (ifAny _) (zero-div (2 ^ (at a .width - k))))), tt)
+  asks-none (ArithmeticRightShift a k) = (none (arithmetic-none (at a .width) k), tt)
   asks-none (SignedBelow a b) = (none refl, (none refl, tt))
 
   -- the law for a record whose D is 0

@@ -1,10 +1,10 @@
--- The laws of shifts: what each bit of a shifted word is, and that what a shift asks is enough.
+-- The laws of shifts: what each bit of a shifted word is, and that what a shift asks is enough, and no bit with D 0.
 -- Assumes nothing.
 use mathlib.Core.Path.{_≡_, refl, sym, ap, ap₂, _∙_, subst₂}
 use mathlib.Core.Bool.{cond}
 use mathlib.Core.Logic.{_⊎_, inl, inr}
 use Prim.Native.Nat.{ℕ, zero, suc, _+_, _-_, _*_, _/_, _%_, _^_, _≤_, _<_, max}
-use native.Mathlib.Nat.{add-zero, add-comm, one-mul, mod-lt, mul-mod-left, eq-zero-or-pos, max-zero}
+use native.Mathlib.Nat.{add-zero, add-comm, one-mul, zero-mul, zero-div, zero-mod, mod-lt, mul-mod-left, eq-zero-or-pos, max-zero}
 use native.Mathlib.Omega.{arith}
 use lib.Bits.{bitOr}
 use lib.Dec.{ltb, eqb·suc-zero, lit<}
@@ -135,3 +135,13 @@ agree-arithmetic-shift {D} {x} {y} w k low h n hx hy a = agree-by-bits (λ i e. 
         arithmetic-copied w k x i hx h g l
         ∙ agree-bit (agree-within (join-right (upWithin w k D) (topIfCopied w k D)) a) (w - 1) (asked-top D w k i g e)
         ∙ sym (arithmetic-copied w k y i hy h g l)
+
+-- ---- with D 0
+
+-- a shift asks for no bit
+module _ (w k : ℕ) where
+  pub up-none : upWithin w k 0 ≡ 0
+  up-none = ap (λ (n : ℕ). n % 2 ^ 64 % 2 ^ w) (zero-mul (2 ^ k)) ∙ zero-mod (2 ^ w)
+
+  pub arithmetic-none : bitOr (upWithin w k 0) (topIfCopied w k 0) ≡ 0
+  arithmetic-none = ap₂ bitOr up-none (ap (ifAny _) (zero-div (2 ^ (w - k))))
