@@ -46,7 +46,7 @@ fn join(list: &mut [u64], ask: Ask, i: usize, again: usize) -> usize
     larger(again, mark(i, at))
 }
 
-// Joins all that record i asks.
+// Joins all that record i asks. A single ask has a call of its own, so that nothing has to stand in for a second and a third.
 fn join_all(list: &mut [u64], asks: Asks, i: usize, again: usize) -> usize
     requires { ⌜ Named (length (now list)) (listed asks) ⌝ }
     ensures list { λ r. ⌜ now (list .exit) ≡ grant (listed asks) (now (list .entry)) ⌝ }
