@@ -1,18 +1,11 @@
 -- Words as numbers: low masks, cuts, shifts, sums, differences and products modulo a power of two, ones and lengths.
 -- Assumes nothing.
-use mathlib.Core.List.{List}
 use Prim.Native.Nat.{ℕ, zero, suc, _+_, _-_, _*_, _/_, _%_, _^_}
 use lib.Count.{onesIn}
-use Rattle.endian.specs.Lists.{wordsOf, wordsFrom}
 
 -- The mask with the n lowest bits.
 abbrev pub lowMask : ℕ → ℕ
 lowMask n = 2 ^ n - 1
-
--- "These 65 low masks stand in a table": entry n has the n lowest bits.
-unfoldable pub lowMasks : List ℕ
-unfolding wordsOf wordsFrom
-lowMasks = wordsOf lowMask 65
 
 -- The w lowest bits of x: "modulo 2^w".
 abbrev pub cut : ℕ → ℕ → ℕ

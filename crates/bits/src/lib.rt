@@ -1,4 +1,4 @@
 // Words of 64 bits: masks, and arithmetic modulo a power of two.
-// Each function is total, or asks for a width of at most 64 and, where it looks one up, for the table of the low masks.
+// Each function is total, or asks for a width of at most 64.
 pub mod arith;
 pub mod mask;

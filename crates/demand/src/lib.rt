@@ -1,10 +1,8 @@
 // What a record asks of its operands under the care rules, kind by kind.
-// A caller has an accepted file, a record of it or an operand that the file holds, and the table of the low masks.
+// A caller has an accepted file and a record of it, or an operand that the file holds.
 use bits::arith::shl;
 use bits::arith::shr;
-use bits::mask::bit_length;
 use bits::mask::cut_to;
-use bits::mask::low_entry;
 use bits::mask::low_mask;
 use netlist::layout::keep_at;
 use netlist::layout::record_at;
@@ -16,7 +14,7 @@ ghost use mathlib.Core.List.{[], _∷_};
 ghost use Prim.Native.Nat.{_+_, _≤_, _<_};
 ghost use lib.Bits.{bitOr};
 ghost use lib.ListN.{length};
-ghost use Rattle.bits.specs.Words.{cut, down, lowMasks};
+ghost use Rattle.bits.specs.Words.{cut, down};
 ghost use Rattle.netlist.specs.Layout.{designOf, countOf, recordStart, recordSize};
 ghost use Rattle.rules.specs.Sound.{Acceptance};
 ghost use Rattle.signal.specs.Asks.{ask, upToHighest, ifAny, allIfAny, upWithin, topIfCopied, asksOf, demandOf};
@@ -84,12 +82,11 @@ impl Asks {
     }
 }
 
-// Every bit from 0 to the highest one in d, by the table of the low masks.
-fn up_to_highest(low: &[u64], d: u64) -> u64
-    requires { ⌜ now low ≡ lowMasks ⌝ }
+// Every bit from 0 to the highest one in d, and none if it is 0: all 64, moved down by the leading zeros of d.
+fn up_to_highest(d: u64) -> u64
     ensures { λ r. ⌜ r ≡ upToHighest d ⌝ }
 {
-    low_entry(low, bit_length(d))
+    shr(u64::MAX, u64::leading_zeros(d) as u64)
 }
 
 // The bits of m if d is not 0, and nothing if it is.
@@ -108,11 +105,10 @@ fn all_if_any(w: u64, d: u64) -> u64
 }
 
 // A sum, difference or product: a carry may reach every bit above it.
-fn of_carries(low: &[u64], a: usize, b: usize, d: u64) -> Asks
-    requires { ⌜ now low ≡ lowMasks ⌝ }
+fn of_carries(a: usize, b: usize, d: u64) -> Asks
     ensures { λ r. ⌜ listed r ≡ ask a (upToHighest d) ∷ ask b (upToHighest d) ∷ [] ⌝ }
 {
-    let bits = up_to_highest(low, d);
+    let bits = up_to_highest(d);
     Asks::two(a, bits, b, bits)
 }
 
@@ -155,8 +151,8 @@ fn of_arithmetic_shift(a: usize, k: u64, w: u64, d: u64) -> Asks
 }
 
 // What a kind asks, with d for D.
-fn of_kind(file: &[u8], low: &[u64], kind: Kind, d: u64) -> Asks
-    requires { ⌜ Readable (now file) kind × (now low ≡ lowMasks) ⌝ }
+fn of_kind(file: &[u8], kind: Kind, d: u64) -> Asks
+    requires { ⌜ Readable (now file) kind ⌝ }
     ensures { λ r. ⌜ listed r ≡ asksOf (designOf (now (file .entry)) .at) kind d ⌝ }
 {
     match kind {
@@ -170,9 +166,9 @@ fn of_kind(file: &[u8], low: &[u64], kind: Kind, d: u64) -> Asks
         Kind::Or { a, b } => Asks::two(a, d, b, d),
         Kind::Xor { a, b } => Asks::two(a, d, b, d),
         Kind::Mux { a, b, c } => Asks::three(a, if_any(1, d), b, d, c, d),
-        Kind::Add { a, b } => of_carries(low, a, b, d),
-        Kind::Sub { a, b } => of_carries(low, a, b, d),
-        Kind::Mul { a, b } => of_carries(low, a, b, d),
+        Kind::Add { a, b } => of_carries(a, b, d),
+        Kind::Sub { a, b } => of_carries(a, b, d),
+        Kind::Mul { a, b } => of_carries(a, b, d),
         Kind::Equal { a, b } => of_comparison(a, width_at(file, a), b, width_at(file, b), d),
         Kind::Below { a, b } => of_comparison(a, width_at(file, a), b, width_at(file, b), d),
         Kind::LeftShift { a, k } => Asks::one(a, shr(d, k)),
@@ -191,12 +187,12 @@ pub fn demand_at(file: &[u8], i: usize, m: u64) -> u64
     m & keep
 }
 
-// What record i asks with d for D, by a table of the low masks.
-pub fn asked(file: &[u8], low: &[u64], i: usize, d: u64) -> Asks
-    requires { ⌜ Acceptance (now file) (countOf (now file)) × (i < countOf (now file)) × (now low ≡ lowMasks) ⌝ }
+// What record i asks with d for D.
+pub fn asked(file: &[u8], i: usize, d: u64) -> Asks
+    requires { ⌜ Acceptance (now file) (countOf (now file)) × (i < countOf (now file)) ⌝ }
     ensures { λ r. ⌜ listed r ≡ asksOf (designOf (now (file .entry)) .at) (designOf (now (file .entry)) .at i .kind) d ⌝ }
 {
     let record = record_at(file, i);
     let kind = record.kind;
-    of_kind(file, low, kind, d)
+    of_kind(file, kind, d)
 }

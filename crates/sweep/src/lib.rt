@@ -1,6 +1,5 @@
 // Backward sweeps over the records, until one adds no bit to a record that it has already passed.
 // A caller has an accepted file and a list with a mask within the width of each record.
-use bits::mask::low_table;
 use demand::Asks;
 use demand::asked;
 use demand::demand_at;
@@ -8,7 +7,6 @@ use signal::Ask;
 ghost use mathlib.Core.Path.{_≡_};
 ghost use Prim.Native.Nat.{_+_, _<_, _^_, max};
 ghost use lib.ListN.{length};
-ghost use Rattle.bits.specs.Words.{lowMasks};
 ghost use Rattle.netlist.specs.Layout.{designOf, countOf};
 ghost use Rattle.rules.specs.Sound.{Acceptance};
 ghost use Rattle.signal.specs.AskLists.{Named};
@@ -69,8 +67,8 @@ fn join_all(list: &mut [u64], asks: Asks, i: usize, again: usize) -> usize
 
 // One sweep from record `top` - 1 down to 0. The records from `top` on are settled already, and a record with D 0 asks for no
 // bit. The answer is where the next sweep starts: one more than the highest record that gained a bit after this one had passed it, or 0.
-fn sweep(file: &[u8], list: &mut [u64], low: &[u64], top: usize) -> usize
-    requires { ⌜ Ready (now file) (now list) top × (now low ≡ lowMasks) ⌝ }
+fn sweep(file: &[u8], list: &mut [u64], top: usize) -> usize
+    requires { ⌜ Ready (now file) (now list) top ⌝ }
     ensures { λ r. ⌜ Swept (designOf (now (file .entry))) (now (list .entry)) (now (list .exit)) r ⌝ }
 {
     let mut again: usize = 0;
@@ -79,7 +77,7 @@ fn sweep(file: &[u8], list: &mut [u64], low: &[u64], top: usize) -> usize
         i -= 1;
         let d = demand_at(file, i, list[i]);
         if d != 0 {
-            let asks = asked(file, low, i, d);
+            let asks = asked(file, i, d);
             again = join_all(list, asks, i, again);
         }
     }
@@ -91,10 +89,9 @@ pub fn raise(file: &[u8], list: &mut [u64])
     requires { ⌜ Acceptance (now file) (countOf (now file)) × Fits (designOf (now file)) (now list) ⌝ }
     ensures { λ r. ⌜ now (list .exit) ≡ leastAbove (designOf (now (file .entry))) (now (list .entry)) ⌝ }
 {
-    let low = low_table();
     let mut top = list.len();
     loop {
-        top = sweep(file, list, &low, top);
+        top = sweep(file, list, top);
         if top == 0 {
             break;
         }

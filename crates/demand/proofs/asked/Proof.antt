@@ -12,17 +12,17 @@ use Rattle.demand.proofs.asked.Statement.{statement}
 use Rattle.demand.proofs.asked.Tie as tie
 
 record-at-requires : tie.Need-record-at-requires
-record-at-requires c κs = let pre = c .before .before .pre in holds-record _ (pre .0) (c .before .before .args .i) (pre .1)
+record-at-requires c κs = let pre = c .before .pre in holds-record _ (pre .0) (c .before .args .i) (pre .1)
 
 of-kind-requires : tie.Need-of-kind-requires
 unfolding designOf
-of-kind-requires c κs = let file = now (c .before .before .before .args .file) in
-    let pre = c .before .before .before .pre in
-    (subst (λ (r : Record). Readable file (r .kind)) (sym (c .record-at .ensures)) (readable file (pre .0) _ (pre .1)), pre .2)
+of-kind-requires c κs = let file = now (c .before .before .args .file) in
+    let pre = c .before .before .pre in
+    subst (λ (r : Record). Readable file (r .kind)) (sym (c .record-at .ensures)) (readable file (pre .0) _ (pre .1))
 
 returns : tie.Need-returns
 unfolding designOf
-returns c = let args = c .before .before .before .before .args in
+returns c = let args = c .before .before .before .args in
     c .of-kind .ensures ∙ ap (λ (r : Record). asksOf (designOf (now (args .file)) .at) (r .kind) (args .d)) (c .before .record-at .ensures)
 
 pub asked-spec : {M : Type 1} → statement M

@@ -4,7 +4,7 @@ use Rattle.demand.proofs.of_carries.Statement.{statement}
 use Rattle.demand.proofs.of_carries.Tie as tie
 
 up-to-highest-requires : tie.Need-up-to-highest-requires
-up-to-highest-requires c κs = c .before .pre
+up-to-highest-requires c κs = tt
 
 two-requires : tie.Need-two-requires
 two-requires c κs = tt

@@ -59,7 +59,7 @@ enum-known-kind-4 : tie.Need-enum-known-kind-4
 enum-known-kind-4 c = c .match .keys6
 
 width-at-requires : tie.Need-width-at-requires
-width-at-requires c κs = told (c .before .before .before .before .before .pre .0) (c .before .kind4 .given .1) .second
+width-at-requires c κs = told (c .before .before .before .before .pre) (c .before .kind4 .given .1) .second
 
 of-concat-requires : tie.Need-of-concat-requires
 of-concat-requires c κs = tt
@@ -95,43 +95,43 @@ enum-known-kind-9 : tie.Need-enum-known-kind-9
 enum-known-kind-9 c = c .match .keys11
 
 of-carries-requires : tie.Need-of-carries-requires
-of-carries-requires c κs = c .before .before .before .before .before .pre .1
+of-carries-requires c κs = tt
 
 enum-known-kind-10 : tie.Need-enum-known-kind-10
 enum-known-kind-10 c = c .match .keys12
 
 of-carries-requires-2 : tie.Need-of-carries-requires-2
-of-carries-requires-2 c κs = c .before .before .before .before .before .pre .1
+of-carries-requires-2 c κs = tt
 
 enum-known-kind-11 : tie.Need-enum-known-kind-11
 enum-known-kind-11 c = c .match .keys13
 
 of-carries-requires-3 : tie.Need-of-carries-requires-3
-of-carries-requires-3 c κs = c .before .before .before .before .before .pre .1
+of-carries-requires-3 c κs = tt
 
 enum-known-kind-12 : tie.Need-enum-known-kind-12
 enum-known-kind-12 c = c .match .keys14
 
 width-at-requires-2 : tie.Need-width-at-requires-2
-width-at-requires-2 c κs = told (c .before .before .before .before .before .pre .0) (c .before .kind12 .given .1) .first
+width-at-requires-2 c κs = told (c .before .before .before .before .pre) (c .before .kind12 .given .1) .first
 
 width-at-requires-3 : tie.Need-width-at-requires-3
-width-at-requires-3 c κs = told (c .before .before .before .before .before .before .pre .0) (c .before .before .kind12 .given .1) .second
+width-at-requires-3 c κs = told (c .before .before .before .before .before .pre) (c .before .before .kind12 .given .1) .second
 
 of-comparison-requires : tie.Need-of-comparison-requires
-of-comparison-requires c κs = both-narrow (told (c .before .before .before .before .before .before .before .pre .0) (c .before .before .before .kind12 .given .1)) (c .before .width-at2 .ensures) (c .width-at3 .ensures)
+of-comparison-requires c κs = both-narrow (told (c .before .before .before .before .before .before .pre) (c .before .before .before .kind12 .given .1)) (c .before .width-at2 .ensures) (c .width-at3 .ensures)
 
 enum-known-kind-13 : tie.Need-enum-known-kind-13
 enum-known-kind-13 c = c .match .keys15
 
 width-at-requires-4 : tie.Need-width-at-requires-4
-width-at-requires-4 c κs = told (c .before .before .before .before .before .pre .0) (c .before .kind13 .given .1) .first
+width-at-requires-4 c κs = told (c .before .before .before .before .pre) (c .before .kind13 .given .1) .first
 
 width-at-requires-5 : tie.Need-width-at-requires-5
-width-at-requires-5 c κs = told (c .before .before .before .before .before .before .pre .0) (c .before .before .kind13 .given .1) .second
+width-at-requires-5 c κs = told (c .before .before .before .before .before .pre) (c .before .before .kind13 .given .1) .second
 
 of-comparison-requires-2 : tie.Need-of-comparison-requires-2
-of-comparison-requires-2 c κs = both-narrow (told (c .before .before .before .before .before .before .before .pre .0) (c .before .before .before .kind13 .given .1)) (c .before .width-at4 .ensures) (c .width-at5 .ensures)
+of-comparison-requires-2 c κs = both-narrow (told (c .before .before .before .before .before .before .pre) (c .before .before .before .kind13 .given .1)) (c .before .width-at4 .ensures) (c .width-at5 .ensures)
 
 enum-known-kind-14 : tie.Need-enum-known-kind-14
 enum-known-kind-14 c = c .match .keys16
@@ -146,7 +146,7 @@ enum-known-kind-15 : tie.Need-enum-known-kind-15
 enum-known-kind-15 c = c .match .keys17
 
 width-at-requires-6 : tie.Need-width-at-requires-6
-width-at-requires-6 c κs = told (c .before .before .before .before .before .pre .0) (c .before .kind15 .given .1) .first
+width-at-requires-6 c κs = told (c .before .before .before .before .pre) (c .before .kind15 .given .1) .first
 
 up-within-requires : tie.Need-up-within-requires
 up-within-requires c κs = tt
@@ -158,12 +158,12 @@ enum-known-kind-16 : tie.Need-enum-known-kind-16
 enum-known-kind-16 c = c .match .keys18
 
 width-at-requires-7 : tie.Need-width-at-requires-7
-width-at-requires-7 c κs = told (c .before .before .before .before .before .pre .0) (c .before .kind16 .given .1) .first
+width-at-requires-7 c κs = told (c .before .before .before .before .pre) (c .before .kind16 .given .1) .first
 
 of-arithmetic-shift-requires : tie.Need-of-arithmetic-shift-requires
 unfolding designOf recordAt
 of-arithmetic-shift-requires c κs =
-    let r = told (c .before .before .before .before .before .before .pre .0) (c .before .before .kind16 .given .1) in
+    let r = told (c .before .before .before .before .before .pre) (c .before .before .kind16 .given .1) in
     let same = sym (c .width-at7 .ensures) in (
       subst (λ (w : ℕ). c .before .before .kind16 .given .0 .1 .0 < w) (sym (r .widths .0) ∙ same) (r .widths .1 .0),
       subst (λ (w : ℕ). w ≤ 64) same (r .narrow-first),
@@ -173,13 +173,13 @@ enum-known-kind-17 : tie.Need-enum-known-kind-17
 enum-known-kind-17 c = c .match .keys19
 
 width-at-requires-8 : tie.Need-width-at-requires-8
-width-at-requires-8 c κs = told (c .before .before .before .before .before .pre .0) (c .before .kind17 .given .1) .first
+width-at-requires-8 c κs = told (c .before .before .before .before .pre) (c .before .kind17 .given .1) .first
 
 width-at-requires-9 : tie.Need-width-at-requires-9
-width-at-requires-9 c κs = told (c .before .before .before .before .before .before .pre .0) (c .before .before .kind17 .given .1) .second
+width-at-requires-9 c κs = told (c .before .before .before .before .before .pre) (c .before .before .kind17 .given .1) .second
 
 of-comparison-requires-3 : tie.Need-of-comparison-requires-3
-of-comparison-requires-3 c κs = both-narrow (told (c .before .before .before .before .before .before .before .pre .0) (c .before .before .before .kind17 .given .1)) (c .before .width-at8 .ensures) (c .width-at9 .ensures)
+of-comparison-requires-3 c κs = both-narrow (told (c .before .before .before .before .before .before .pre) (c .before .before .before .kind17 .given .1)) (c .before .width-at8 .ensures) (c .width-at9 .ensures)
 
 returns : tie.Need-returns
 returns c = rw (c .before .enum-told .given .1) (c .none .ensures)
@@ -195,7 +195,7 @@ returns-4 c = rw (c .before .before .kind2 .given .1) (c .one2 .ensures)
 
 returns-5 : tie.Need-returns-5
 returns-5 c = let kind = c .before .before .before .kind3 in
-    let args = c .before .before .before .before .before .before .before .args in
+    let args = c .before .before .before .before .before .before .args in
     let moved : c .before .shl .result ≡ up (kind .given .0 .1 .0) (args .d) = c .before .shl .ensures in
     rw (kind .given .1, ← moved) (c .one3 .ensures)
 
@@ -214,7 +214,7 @@ returns-9 c = rw (c .before .before .kind7 .given .1) (c .two3 .ensures)
 
 returns-10 : tie.Need-returns-10
 returns-10 c =
-    let args = c .before .before .before .before .before .before .before .args in
+    let args = c .before .before .before .before .before .before .args in
     let selector : c .before .if-any .result ≡ ifAny 1 (args .d) = c .before .if-any .ensures in
     rw (c .before .before .before .kind8 .given .1, ← selector) (c .three .ensures)
 
@@ -239,14 +239,14 @@ returns-15 c = rw (c .before .before .before .before .kind13 .given .1, ← c .b
 
 returns-16 : tie.Need-returns-16
 returns-16 c = let kind = c .before .before .before .kind14 in
-    let args = c .before .before .before .before .before .before .before .args in
+    let args = c .before .before .before .before .before .before .args in
     let moved : c .before .shr .result ≡ down (kind .given .0 .1 .0) (args .d) = c .before .shr .ensures in
     rw (kind .given .1, ← moved) (c .one4 .ensures)
 
 returns-17 : tie.Need-returns-17
 unfolding designOf recordAt
 returns-17 c = let kind = c .before .before .before .before .kind15 in
-    let args = c .before .before .before .before .before .before .before .before .args in
+    let args = c .before .before .before .before .before .before .before .args in
     let width = c .before .before .width-at6 in
     let moved : c .before .up-within .result ≡ upWithin (width .result) (kind .given .0 .1 .0) (args .d) = c .before .up-within .ensures in
     rw (kind .given .1, ← width .ensures, ← moved) (c .one5 .ensures)

@@ -40,21 +40,21 @@ module _ (d : Design) (s : Sound d) (before masks : List ℕ) (again j D : ℕ) 
     turn after next a m = rw (a, m, read) (sweep-step d s before masks again (j - 1) here)
 
 abbrev Inv-loop : tie.InvT-loop
-Inv-loop file list₀ low top again₀ i₀ list again i = Sweeping (designOf file) list₀ list again i
+Inv-loop file list₀ top again₀ i₀ list again i = Sweeping (designOf file) list₀ list again i
 
 abbrev μ-loop : tie.MeasureT-loop
-μ-loop file list₀ low top again₀ i₀ list again i = i
+μ-loop file list₀ top again₀ i₀ list again i = i
 
 loop-holds : tie.Need-loop-holds Inv-loop μ-loop
 unfolding designOf
-loop-holds c = let p = c .before .before .before .pre .0 in sweep-begins _ _ _ (p .low) (p .fits) (p .settled)
+loop-holds c = let p = c .before .before .pre in sweep-begins _ _ _ (p .low) (p .fits) (p .settled)
 
 sub-i : tie.Need-sub-i Inv-loop μ-loop
 sub-i c = omega arith
 
 mul-demand-at : tie.Need-mul-demand-at Inv-loop μ-loop
 unfolding designOf
-mul-demand-at c = let f = c .before .before .before .before .before .pre .0 .accepted .sound .few in let l = c .before .loop .inv .place in omega arith
+mul-demand-at c = let f = c .before .before .before .before .pre .accepted .sound .few in let l = c .before .loop .inv .place in omega arith
 
 slice-read-demand-at : tie.Need-slice-read-demand-at Inv-loop μ-loop
 slice-read-demand-at c = let e = c .before .before .loop .inv .size in let l = c .before .before .loop .inv .place in omega arith
@@ -62,21 +62,21 @@ slice-read-demand-at c = let e = c .before .before .loop .inv .size in let l = c
 demand-at-requires : tie.Need-demand-at-requires Inv-loop μ-loop
 unfolding designOf
 demand-at-requires c κs =
-    holds-record _ (c .before .before .before .before .before .before .pre .0 .accepted) _
+    holds-record _ (c .before .before .before .before .before .pre .accepted) _
     (let l = c .before .before .loop .inv .place in let t = c .before .loop-test .taken in omega arith)
 
 asked-requires : tie.Need-asked-requires Inv-loop μ-loop
 unfolding designOf
 asked-requires c κs =
-    let pre = c .before .before .before .before .before .before .before .before .pre in
+    let pre = c .before .before .before .before .before .before .before .pre in
     let t = c .before .before .before .loop-test .taken in
-    (pre .0 .accepted, let l = c .before .before .before .before .loop .inv .place in omega arith, pre .1)
+    (pre .accepted, let l = c .before .before .before .before .loop .inv .place in omega arith)
 
 join-all-requires : tie.Need-join-all-requires Inv-loop μ-loop
 join-all-requires c κs =
     let loop = c .before .before .before .before .before .before .loop in
-    named (designOf (now (c .before .before .before .before .before .before .before .before .before .before .args .file)))
-    (c .before .before .before .before .before .before .before .before .before .before .pre .0 .accepted .sound) _ (loop .list) _ (loop .i) _
+    named (designOf (now (c .before .before .before .before .before .before .before .before .before .args .file)))
+    (c .before .before .before .before .before .before .before .before .before .pre .accepted .sound) _ (loop .list) _ (loop .i) _
     (c .before .before .before .before .before .loop-test .taken) (loop .inv) (c .before .before .before .demand-at .ensures) _ (c .before .asked .ensures)
 
 loop-less : tie.Need-loop-less Inv-loop μ-loop
@@ -86,8 +86,8 @@ loop-again : tie.Need-loop-again Inv-loop μ-loop
 loop-again c =
     let loop = c .before .before .before .before .before .before .before .before .before .loop in
     let joins = c .before .before .join-all .ensures in
-    turn (designOf (now (c .before .before .before .before .before .before .before .before .before .before .before .before .before .args .file)))
-    (c .before .before .before .before .before .before .before .before .before .before .before .before .before .pre .0 .accepted .sound) _ (loop .list) _ (loop .i) _
+    turn (designOf (now (c .before .before .before .before .before .before .before .before .before .before .before .before .args .file)))
+    (c .before .before .before .before .before .before .before .before .before .before .before .before .pre .accepted .sound) _ (loop .list) _ (loop .i) _
     (c .before .before .before .before .before .before .before .before .loop-test .taken) (loop .inv) (c .before .before .before .before .before .before .demand-at .ensures) _
     (c .before .before .before .before .asked .ensures) _ _ (joins .0) (joins .1)
 
@@ -97,16 +97,16 @@ loop-less-2 c = omega arith
 loop-again-2 : tie.Need-loop-again-2 Inv-loop μ-loop
 loop-again-2 c =
     let loop = c .before .before .before .before .loop in
-    passed (designOf (now (c .before .before .before .before .before .before .before .before .args .file)))
-    (c .before .before .before .before .before .before .before .before .pre .0 .accepted .sound) _ (loop .list) _ (loop .i) _
+    passed (designOf (now (c .before .before .before .before .before .before .before .args .file)))
+    (c .before .before .before .before .before .before .before .pre .accepted .sound) _ (loop .list) _ (loop .i) _
     (c .before .before .before .loop-test .taken) (loop .inv) (c .before .demand-at .ensures) (c .if1 .left)
 
 same-length : tie.Need-same-length Inv-loop μ-loop
-same-length c = c .before .loop .inv .size ∙ sym (c .before .before .before .before .before .pre .0 .fits .size)
+same-length c = c .before .loop .inv .size ∙ sym (c .before .before .before .before .pre .fits .size)
 
 returns : tie.Need-returns Inv-loop μ-loop
 returns c =
-    let args = c .before .before .before .before .before .args in
+    let args = c .before .before .before .before .args in
     let loop = c .before .loop in
     sweep-ends _ _ _ _ (subst (λ (n : ℕ). Sweeping (designOf (now (args .file))) (now (args .list)) (loop .list) (loop .again) n)
     (let t = c .loop-test .left in omega arith) (loop .inv))
