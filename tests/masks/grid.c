@@ -54,6 +54,36 @@ static void try_width(const struct operation *operation, uint8_t kind,
         try_bits(operation, words[i / MANY], words[i % MANY]);
 }
 
+/* Every D of one bit and of two at this width: the record keeps all of what is
+   asked for, then it is asked for more than it keeps. */
+static void every_demand(uint8_t kind, unsigned width)
+{
+    uint64_t full = width_mask(width);
+    unsigned i, j;
+
+    reader_suited(&net, kind, width);
+    for (i = 0; i < width; i++)
+        for (j = 0; j <= i; j++) {
+            uint64_t d = one_bit(i) | one_bit(j);
+
+            try_bits(&masks_operation, full, d);
+            try_bits(&masks_operation, d, full);
+        }
+}
+
+/* Sums, differences and products, whose lower bits carry into their higher
+   ones, at every width. */
+static void every_carry(void)
+{
+    static const uint8_t kinds[] = { KIND_ADD, KIND_SUB, KIND_MUL };
+    unsigned i, width;
+
+    for (i = 0; i < sizeof kinds; i++)
+        for (width = least_width(kinds[i]); width <= most_width(kinds[i]);
+             width++)
+            every_demand(kinds[i], width);
+}
+
 /* Every bit kept, or not, beside every bit asked for, or not. */
 static void every_pair(void)
 {
@@ -130,6 +160,10 @@ void masks_grid(void)
     test_begin("care rule: extract, concat, shifts and comparisons at every"
                " place");
     every_place();
+    test_end();
+    test_begin("care rule: add, sub and mul with every D of one bit and of"
+               " two");
+    every_carry();
     test_end();
 }
 
