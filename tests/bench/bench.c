@@ -5,6 +5,11 @@
 #include "plain.h"
 #include "rows.h"
 
+static uint64_t check_in_c(const struct lent *lent)
+{
+    return plain_check(BYTES_OF(lent, 0));
+}
+
 static uint64_t masks_in_c(const struct lent *lent)
 {
     return plain_masks(BYTES_OF(lent, 0), BYTES_OF(lent, 1));
@@ -28,7 +33,7 @@ static uint64_t cycle_in_c(const struct lent *lent)
 }
 
 static const struct row rows[] = {
-    { "check, all kinds", &check_operation, NULL, all_kinds,
+    { "check, all kinds", &check_operation, check_in_c, all_kinds,
       { 64, 256, 1024, 2048 } },
     { "masks, feedback", &masks_operation, masks_in_c, feedback,
       { 64, 256, 1024, 2048 } },

@@ -7,6 +7,8 @@
 #include <stddef.h>
 #include <stdint.h>
 
+uint64_t plain_check(const uint8_t *file, size_t length);
+
 uint64_t plain_masks(const uint8_t *file, size_t length, uint8_t *masks,
                      size_t masks_length);
 

@@ -72,18 +72,17 @@ static int run_row(const struct row *row, uint32_t count, int once)
 {
     static struct workload work;
     function *library = row->operation->library;
-    function *plain = row->plain != NULL ? row->plain : row->operation->model;
 
     work.operation = row->operation;
     row->make(&work, count);
-    if (!same_results(library, plain, &work)) {
+    if (!same_results(library, row->plain, &work)) {
         fprintf(stderr, "%s: the results differ at %" PRIu32 " records\n",
                 row->name, count);
         return 0;
     }
     printf("%s\t%" PRIu32 "\t%" PRIu32, row->name, count, work.files);
     if (!once) {
-        struct times times = time_both(library, plain, &work);
+        struct times times = time_both(library, row->plain, &work);
 
         printf("\t%.6f\t%.6f", times.library, times.plain);
     }

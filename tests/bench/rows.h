@@ -12,8 +12,7 @@
 
 enum { ROW_COUNTS = 4 };
 
-/* The rows of an operation on one sort of design. Where no plain C is named,
-   the model's function stands for it; count 0 is no row. */
+/* The rows of an operation on one sort of design; count 0 is no row. */
 struct row {
     const char *name;
     const struct operation *operation;

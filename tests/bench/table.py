@@ -1,5 +1,5 @@
 """Measures and prints what docs/BENCHMARKS.md shows, as Markdown.
-Assumes built programs: table.py [--write DOCUMENT] PROGRAM..."""
+Assumes built programs: table.py [--write DOCUMENT | --beside] PROGRAM..."""
 
 import sys
 import textwrap
@@ -20,7 +20,6 @@ GOALS = {
     "trim, combinational": 0.9,
     "cycle, no multipliers": 1.0,
 }
-SIDES = "library", "plain C"
 
 
 def table(heads, lines):
@@ -37,15 +36,15 @@ def counts_ratio(row):
     return row.counts and row.counts[0] / row.counts[1]
 
 
-def main_table(rows):
+def main_table(rows, other, goals):
     heads = ["operation, designs", "records", "designs", "library, µs",
-             "plain C, µs", "ratio", "goal", "library, ns a record",
-             "plain C, ns a record", "library, instructions a record",
-             "plain C, instructions a record", "ratio of instructions"]
+             f"{other}, µs", "ratio", "goal", "library, ns a record",
+             f"{other}, ns a record", "library, instructions a record",
+             f"{other}, instructions a record", "ratio of instructions"]
     return table(heads, [[
         row.name, f"{row.records:,}", str(row.designs),
         number(row.times[0], 2), number(row.times[1], 2),
-        number(row.ratio(), 2), number(GOALS.get(row.name), 1),
+        number(row.ratio(), 2), number(goals.get(row.name), 1),
         number(row.nanoseconds(0), 1), number(row.nanoseconds(1), 1),
         number(row.instructions(0), 1), number(row.instructions(1), 1),
         number(counts_ratio(row), 2)] for row in rows])
@@ -63,7 +62,7 @@ def over(value, first):
     return None if value is None else value / first
 
 
-def growth_table(rows):
+def growth_table(rows, other):
     """For each side: a record of a larger design over one of the smallest."""
     several = {name: sizes for name, sizes in by_name(rows).items()
                if len(sizes) > 1}
@@ -80,7 +79,7 @@ def growth_table(rows):
                      for row in later]
             counts = [over(row.instructions(side), first.instructions(side))
                       for row in later]
-            lines.append([name, SIDES[side]]
+            lines.append([name, ("library", other)[side]]
                          + [number(value, 2) for value in times + counts])
     return table(heads, lines)
 
@@ -93,18 +92,18 @@ def listed(rows):
         for name, of in by_name(rows).items()) or "none"
 
 
-def verdict(rows):
+def verdict(rows, other, goals):
     """What is slower is said in words, however the run came out."""
     slower = [row for row in rows if round(row.ratio(), 2) > 1]
     missed = [row for row in rows
-              if row.name in GOALS and round(row.ratio(), 2) > GOALS[row.name]]
-    return [*textwrap.wrap(f"Slower than plain C in this run, {len(slower)} of"
+              if row.name in goals and round(row.ratio(), 2) > goals[row.name]]
+    return [*textwrap.wrap(f"Slower than {other} in this run, {len(slower)} of"
                            f" {len(rows)} rows: {listed(slower)}.", 110), "",
             *textwrap.wrap(f"Above the goal in this run: {listed(missed)}.",
                            110)]
 
 
-def measured(programs):
+def measured(programs, other="plain C", goals=GOALS):
     """Runs everything and gives the lines of the measured part."""
     counting = can_count()
     lines = machine_lines(counting)
@@ -114,11 +113,12 @@ def measured(programs):
         count_rows(programs[0], rows)
     lines.append(f"- Times: the best of {rounds} rounds of at least"
                  f" {length // 1000} ms, in {len(programs)} programs;"
-                 " library and plain C take turns.")
-    return (lines + ["", "### Times and instructions", ""] + main_table(rows)
-            + [""] + verdict(rows)
+                 f" library and {other} take turns.")
+    return (lines + ["", "### Times and instructions", ""]
+            + main_table(rows, other, goals) + [""]
+            + verdict(rows, other, goals)
             + ["", f"### Growth from {rows[0].records} records", ""]
-            + growth_table(rows))
+            + growth_table(rows, other))
 
 
 def split_document(path):
@@ -134,6 +134,9 @@ def split_document(path):
 
 
 def main(arguments):
+    if arguments[:1] == ["--beside"]:
+        print("\n".join(measured(arguments[1:], "the earlier library", {})))
+        return
     if arguments[:1] != ["--write"]:
         print("\n".join(measured(arguments)))
         return

@@ -4,11 +4,10 @@ use mathlib.Core.Path.{_≡_, refl, sym, ap, ap₂, _∙_, subst, subst₂}
 use Prim.Native.Nat.{ℕ, _+_, _*_, _^_, _≤_, _<_}
 use native.Mathlib.Nat.{add-zero, le-trans, le-of-eq, lt-of-lt-of-le}
 use lib.Bits.{bitAnd, and-mask, and-block}
-use lib.Count.{leadingZeros}
-use lib.Pow.{pow-pos, pow-mono, shl-lt, shl-exact, shr-lt, high, ones-lt, ones-split}
+use lib.Pow.{pow-pos, pow-mono, shl-lt, shl-exact, shr-lt}
 use Rattle.bits.specs.Masks.{Within}
 use Rattle.bits.specs.Words.{lowMask, cut, up, down, lengthIn, bitLength}
-use Rattle.bits.proofs.Counts.{length-leading, lengthIn-holds, lengthIn-least}
+use Rattle.bits.proofs.Counts.{lengthIn-holds, lengthIn-least}
 use Rattle.bits.proofs.Digits.{bit-down}
 use Rattle.bits.proofs.Order.{within-bit, within-by-bits, within-lt, meet-mono}
 
@@ -46,15 +45,7 @@ down-mono {a} {b} k h = within-by-bits (λ i. le-trans (le-of-eq (bit-down a k i
 pub down-lt : {d : ℕ} (m k : ℕ) → d < 2 ^ (m + k) → down k d < 2 ^ m
 down-lt = shr-lt
 
--- n + k low bits moved down by k places are n
-pub down-low : (n k : ℕ) → down k (lowMask (n + k)) ≡ lowMask n
-down-low n k = ap (down k) (ones-split n k) ∙ high (lowMask n) k (ones-lt k)
-
 -- ---- up to the highest one
-
--- all bits of a word moved down by the leading zeros of d
-pub down-leading : (d : ℕ) → down (leadingZeros 64 d) (lowMask 64) ≡ lowMask (bitLength d)
-down-leading d = ap (λ (n : ℕ). down (leadingZeros 64 d) (lowMask n)) (sym (length-leading 64 d)) ∙ down-low (bitLength d) (leadingZeros 64 d)
 
 pub length-zero : bitLength 0 ≡ 0
 unfolding lengthIn

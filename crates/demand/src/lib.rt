@@ -2,6 +2,7 @@
 // A caller has an accepted file and a record of it, or an operand that the file holds.
 use bits::arith::shl;
 use bits::arith::shr;
+use bits::mask::bit_length;
 use bits::mask::cut_to;
 use bits::mask::low_mask;
 use netlist::layout::keep_at;
@@ -82,11 +83,11 @@ impl Asks {
     }
 }
 
-// Every bit from 0 to the highest one in d, and none if it is 0: all 64, moved down by the leading zeros of d.
+// Every bit from 0 to the highest one in d.
 fn up_to_highest(d: u64) -> u64
     ensures { λ r. ⌜ r ≡ upToHighest d ⌝ }
 {
-    shr(u64::MAX, u64::leading_zeros(d) as u64)
+    low_mask(bit_length(d))
 }
 
 // The bits of m if d is not 0, and nothing if it is.

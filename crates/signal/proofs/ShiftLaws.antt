@@ -8,14 +8,13 @@ use native.Mathlib.Nat.{add-zero, add-comm, one-mul, zero-mul, zero-div, zero-mo
 use native.Mathlib.Omega.{arith}
 use lib.Bits.{bitOr}
 use lib.Dec.{ltb, eqb·suc-zero, lit<}
-use lib.Pow.{pow-pos, shl-shr, high-ones}
+use lib.Pow.{pow-pos, shl-shr, high, ones-lt, ones-split, high-ones}
 use borrow.Author.Tests.{lt-ltb, le-ltb}
 use Rattle.bits.specs.Masks.{bit, Agree}
 use Rattle.bits.specs.Words.{lowMask, cut, down}
 use Rattle.bits.proofs.Agreement.{agree-refl, agree-by-bits, agree-bit, agree-within, agree-cut, agree-concat}
 use Rattle.bits.proofs.Digits.{bit-or, bit-down, bit-cut, bit-up, bit-low, bit-beyond, bit-cases, one-below}
 use Rattle.bits.proofs.Order.{join-left, join-right}
-use Rattle.bits.proofs.Shifts.{down-low}
 use Rattle.netlist.specs.declared.record.Kind.the-variants.{LeftShift, RightShift}
 use Rattle.signal.specs.Asks.{ifAny, upWithin, topIfCopied}
 use Rattle.signal.specs.Results.{topBit, emptied, arithmeticDown, resultOf}
@@ -77,7 +76,7 @@ emptied-high w k h =
     let j = w - k in
     let e : w ≡ j + k = omega arith in
     ap (λ (n : ℕ). lowMask n - down k (lowMask n)) e
-    ∙ ap (λ (n : ℕ). lowMask (j + k) - n) (down-low j k)
+    ∙ ap (λ (n : ℕ). lowMask (j + k) - n) (ap (down k) (ones-split j k) ∙ high (lowMask j) k (ones-lt k))
     ∙ (let p = pow-pos j in let q : 2 ^ (j + k) ≡ 2 ^ (k + j) = ap (λ (n : ℕ). 2 ^ n) (add-comm j k) in omega arith)
     ∙ high-ones k j
 
