@@ -158,6 +158,20 @@ def signed_angle():
     return d
 
 
+def status_word():
+    """A pitch drive reports a status word of 16 bits. One fixed pattern cuts
+    it to the two faults of which an alarm tells. Another cuts it to what the
+    display shows, and a third sets two bits that the display wants to be 1.
+    Bits of the word that the patterns kill are not cared for."""
+    d = Design()
+    word = d.input(16)
+    faults = d.gate(AND, word, d.constant(16, 0x8100))
+    d.output(d.below(d.constant(16, 0), faults))
+    shown = d.gate(AND, word, d.constant(16, 0x00f6))
+    d.output(d.gate(OR, shown, d.constant(16, 0x0006)))
+    return d
+
+
 def extended(d, signal, width):
     """The signal, two's complement, in more bits."""
     more = width - d.width(signal)
@@ -310,6 +324,7 @@ DESIGNS = {
     "unread-mux": unread_mux(),
     "register-ring": register_ring(),
     "signed-angle": signed_angle(),
+    "status-word": status_word(),
     "pitch-card": pitch_card(),
 }
 

@@ -39,6 +39,8 @@ static const struct row rows[] = {
       { 64, 256, 1024, 2048 } },
     { "masks, combinational", &masks_operation, masks_in_c, combinational,
       { 64, 256, 1024, 2048 } },
+    { "masks, words cut with constants", &masks_operation, masks_in_c,
+      cut_words, { 64, 256, 1024, 2048 } },
     { "masks, 2,000 registers", &masks_operation, masks_in_c, chain,
       { 2002, 0, 0, 0 } },
     { "trim, feedback", &trim_operation, trim_in_c, feedback,

@@ -34,6 +34,23 @@ static inline uint64_t asked_by_copies(const uint8_t *p, uint64_t d)
     return (d << p[8] & width_mask(p[1])) | copied << top;
 }
 
+/* An and or an or: beside a constant, the other operand is asked only for the
+   bits that the constant leaves to it. These are its ones in an and; in an or
+   they are its zeros, which all bits in `inverted` make ones. */
+static inline uint64_t ask_masked(const uint8_t *file, uint32_t a, uint32_t b,
+                                  uint64_t inverted, uint64_t d,
+                                  uint64_t *masks)
+{
+    const uint8_t *p = record_at(file, a), *q = record_at(file, b);
+    uint64_t of_a = d, of_b = d;
+
+    if (p[0] == KIND_CONSTANT && q[0] != KIND_CONSTANT)
+        of_b &= (load_64(p + 8) & load_64(p + 16)) ^ inverted;
+    if (q[0] == KIND_CONSTANT && p[0] != KIND_CONSTANT)
+        of_a &= (load_64(q + 8) & load_64(q + 16)) ^ inverted;
+    return ask(masks, a, of_a) | ask(masks, b, of_b);
+}
+
 /* What the record at `p` asks of its operands; D is not 0. */
 static inline uint64_t ask_operands(const uint8_t *file, const uint8_t *p,
                                     uint64_t d, uint64_t *masks)
@@ -51,6 +68,10 @@ static inline uint64_t ask_operands(const uint8_t *file, const uint8_t *p,
         return ask(masks, a, d << p[8]);
     case KIND_CONCAT:
         return ask_parts(masks, a, b, width_at(file, b), d);
+    case KIND_AND:
+        return ask_masked(file, a, b, 0, d, masks);
+    case KIND_OR:
+        return ask_masked(file, a, b, ~(uint64_t)0, d, masks);
     case KIND_MUX:
         return ask(masks, a, 1) | ask(masks, b, d)
              | ask(masks, read_16(p + 6), d);

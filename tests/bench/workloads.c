@@ -117,6 +117,11 @@ void combinational(struct workload *work, uint32_t count)
     styled(work, count, &styles[STYLE_COMBINATIONAL], 0);
 }
 
+void cut_words(struct workload *work, uint32_t count)
+{
+    styled(work, count, &styles[STYLE_CUT], 0);
+}
+
 void clocked(struct workload *work, uint32_t count)
 {
     styled(work, count, &clocked_style, many_widths(count));

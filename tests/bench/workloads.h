@@ -26,6 +26,7 @@ typedef void workload_maker(struct workload *work, uint32_t count);
 workload_maker all_kinds;     /* random designs with all kinds alike */
 workload_maker feedback;      /* random designs, many registers */
 workload_maker combinational; /* random designs without registers */
+workload_maker cut_words;     /* many ands and ors with a constant */
 workload_maker chain;         /* registers that each read the next one */
 
 /* Random designs of many widths with inputs, registers and outputs: of all

@@ -149,6 +149,25 @@ static void make_register(struct rng *rng, struct netlist *net)
     record->operand[0] = rng_below(rng, net->count);
 }
 
+/* What an and or an or reads becomes a constant: the next one from any place
+   on. */
+static void make_constant(struct rng *rng, struct netlist *net)
+{
+    uint32_t from = rng_below(rng, net->count), i;
+
+    for (i = 0; i < net->count; i++) {
+        const struct record *record
+            = &net->records[(from + i) % net->count];
+        uint32_t number = record->operand[rng_below(rng, 2)];
+
+        if (!kind_cuts(record->kind) || number >= net->count)
+            continue;
+        net->records[number].kind = KIND_CONSTANT;
+        net->records[number].k = rng_word(rng);
+        return;
+    }
+}
+
 static void new_design(struct rng *rng, struct netlist *net)
 {
     design_styled(rng, net, rng_between(rng, 1, NEW_COUNT),
@@ -159,8 +178,8 @@ static change *const changes[] = {
     insert_record, insert_record, copy_block, copy_block, double_design,
     delete_record, delete_record, delete_block, move_operand, move_operand,
     move_operand, change_width, change_keep, change_keep, change_k, add_output,
-    make_register, damage_kind, damage_kind, damage_edge, damage_edge,
-    damage_order, damage_far_k, new_design
+    make_register, make_constant, damage_kind, damage_kind, damage_edge,
+    damage_edge, damage_order, damage_far_k, new_design
 };
 
 static uint32_t draw(struct rng *rng, size_t size)

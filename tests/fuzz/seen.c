@@ -12,7 +12,7 @@
 #include "../harness/operations.h"
 #include "fault.h"
 
-enum { REFUSALS = 32, AMOUNTS = 3, SHIFTS = 3 };
+enum { REFUSALS = 32, AMOUNTS = 3, SHIFTS = 3, CUTS = 2, READ_CONSTANTS = 4 };
 
 /* The cases, each a byte. An input that meets a case for the first time is
    kept, as one is that reaches new code of the model: the model is short, and
@@ -40,7 +40,11 @@ enum {
     COPIED = MOVED + SHIFTS * WIDTH_LIMIT,
                       /* for shifts: which of them, ones in the lowest k and in
                          the highest k bits of D */
-    CASES = COPIED + SHIFTS * AMOUNTS * AMOUNTS
+    CUT = COPIED + SHIFTS * AMOUNTS * AMOUNTS,
+                      /* for and and or: which of them, which of a and b are
+                         constants, ones of their k and of their values among
+                         the bits of D */
+    CASES = CUT + CUTS * READ_CONSTANTS * AMOUNTS * AMOUNTS
 };
 
 static uint8_t cases[CASES]
@@ -143,10 +147,16 @@ void seen_checked(const uint8_t *file, uint64_t answer)
         counts.kinds[i] += met[i];
 }
 
-/* None of the bits within the width, some, or all. */
+/* None of all these bits, some, or all. */
+static unsigned amount_of(uint64_t bits, uint64_t all)
+{
+    return bits == 0 ? 0 : bits == all ? 2 : 1;
+}
+
+/* The same of the bits within the width. */
 static unsigned amount(uint64_t bits, unsigned width)
 {
-    return bits == 0 ? 0 : bits == width_mask(width) ? 2 : 1;
+    return amount_of(bits, width_mask(width));
 }
 
 static unsigned highest(uint64_t bits)
@@ -170,6 +180,26 @@ static void note_shift(const struct record *record, uint64_t d)
           + amount(d >> (record->width - 1u - k) >> 1, k)] = 1;
 }
 
+/* Which operands of an and or an or are constants, and what these have where D
+   has bits. */
+static void note_cut(const uint8_t *file, const struct record *record,
+                     uint64_t d)
+{
+    unsigned at = record->kind - KIND_AND, i;
+    uint64_t k = d, value = d;
+
+    for (i = 0; i < 2; i++) {
+        struct record operand = read_record(file, record->operand[i]);
+        int is_constant = operand.kind == KIND_CONSTANT;
+
+        at = 2 * at + (unsigned)is_constant;
+        k &= is_constant ? operand.k : d;
+        value &= is_constant ? operand.k & operand.keep : d;
+    }
+    cases[CUT + (at * AMOUNTS + amount_of(k, d)) * AMOUNTS
+          + amount_of(value, d)] = 1;
+}
+
 /* The widths and places at which a record is at work; `d` is not 0. */
 static void note_places(const uint8_t *file, const struct record *record,
                         uint64_t d)
@@ -182,6 +212,10 @@ static void note_places(const uint8_t *file, const struct record *record,
         break;
     case KIND_CONCAT:
         cases[LOW + width_at(file, record->operand[1])] = 1;
+        break;
+    case KIND_AND:
+    case KIND_OR:
+        note_cut(file, record, d);
         break;
     case KIND_ADD:
     case KIND_SUB:

@@ -38,6 +38,8 @@ const struct style styles[STYLES + 1] = {
       KEEP_ANY },
     { { 1, 1, 1, 0, 2, 2, 2, 2, 2, 2, 2, 2, 2, 1, 1, 1, 1, 1, 1 }, 1, 1, 4,
       KEEP_MOSTLY },
+    { { 4, 5, 1, 2, 1, 1, 6, 6, 1, 1, 1, 0, 0, 1, 0, 1, 1, 0, 0 }, 2, 10, 12,
+      KEEP_MOSTLY },
     { { 1, 1, 3, 0, 2, 2, 1, 1, 1, 4, 1, 1, 1, 1, 1, 1, 1, 1, 1 }, 0, 1, 0,
       KEEP_ANY },
     { { 1, 1, 1, 1, 1, 1, 1, 1, 1, 1, 1, 1, 1, 1, 1, 1, 1, 1, 1 }, 0, 0, 0,
@@ -75,9 +77,9 @@ uint64_t design_word(struct rng *rng, unsigned width)
     }
 }
 
-static struct widths pick_widths(struct rng *rng)
+static struct widths pick_widths(struct rng *rng, int few)
 {
-    int all = rng_once_in(rng, 2);
+    int all = rng_once_in(rng, 2) && !few;
     struct widths widths;
     uint32_t i;
 
@@ -285,6 +287,24 @@ static void connect_registers(struct rng *rng, struct netlist *net)
     }
 }
 
+/* Three in four ands and ors read the last constant of their width before
+   them, if there is one, as a or as b. With few widths there mostly is. */
+static void connect_constants(struct rng *rng, struct netlist *net)
+{
+    uint32_t behind[WIDTH_LIMIT + 1] = { 0 };
+    uint32_t i;
+
+    for (i = 0; i < net->count; i++) {
+        struct record *record = &net->records[i];
+
+        if (record->kind == KIND_CONSTANT)
+            behind[record->width] = i + 1;
+        if (kind_cuts(record->kind) && behind[record->width] > 0
+            && !rng_once_in(rng, 4))
+            record->operand[rng_below(rng, 2)] = behind[record->width] - 1;
+    }
+}
+
 static void draw_keeps(struct rng *rng, struct netlist *net,
                        enum keep_style keep)
 {
@@ -299,7 +319,8 @@ static void draw_keeps(struct rng *rng, struct netlist *net,
 void design_styled(struct rng *rng, struct netlist *net, uint32_t count,
                    const struct style *style)
 {
-    struct widths widths = pick_widths(rng);
+    int is_cut = style == &styles[STYLE_CUT];
+    struct widths widths = pick_widths(rng, is_cut);
 
     readable.recent = style->recent;
     memset(readable.count, 0, sizeof readable.count);
@@ -311,6 +332,8 @@ void design_styled(struct rng *rng, struct netlist *net, uint32_t count,
     }
     readable.recent = 0;
     connect_registers(rng, net);
+    if (is_cut)
+        connect_constants(rng, net);
     draw_keeps(rng, net, style->keep);
 }
 

@@ -34,6 +34,11 @@ int kind_compares(uint8_t kind)
         || kind == KIND_SIGNED_BELOW;
 }
 
+int kind_cuts(uint8_t kind)
+{
+    return kind == KIND_AND || kind == KIND_OR;
+}
+
 void netlist_clear(struct netlist *net)
 {
     memcpy(net->mark, "PCN", 3);
@@ -72,6 +77,30 @@ uint32_t netlist_output(struct netlist *net, uint32_t a, uint64_t keep)
 
     net->records[number].keep = keep;
     return number;
+}
+
+int netlist_constant(const struct netlist *net, uint32_t number)
+{
+    const struct record *record = &net->records[number];
+    int a = net->records[record->operand[0]].kind == KIND_CONSTANT;
+    int b = net->records[record->operand[1]].kind == KIND_CONSTANT;
+
+    return kind_cuts(record->kind) && a != b ? b : -1;
+}
+
+uint64_t netlist_settled(const struct netlist *net, uint32_t number)
+{
+    const struct record *record = &net->records[number];
+    int place = netlist_constant(net, number);
+    const struct record *constant;
+    uint64_t value;
+
+    if (place < 0)
+        return 0;
+    constant = &net->records[record->operand[place]];
+    value = constant->k & constant->keep;
+    return record->kind == KIND_OR ? value
+                                   : ~value & width_mask(record->width);
 }
 
 void write_16(uint8_t *bytes, uint32_t number)

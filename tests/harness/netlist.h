@@ -37,9 +37,11 @@ int kind_uses(uint8_t kind, char field);
 /* The count of operands that the kind uses: a, then b, then c. */
 unsigned kind_operands(uint8_t kind);
 
-/* Whether the kind moves a by k places, or compares a and b. */
+/* Whether the kind moves a by k places, or compares a and b, or is an and or
+   an or, with which words are cut. */
 int kind_shifts(uint8_t kind);
 int kind_compares(uint8_t kind);
+int kind_cuts(uint8_t kind);
 
 void netlist_clear(struct netlist *net);
 
@@ -50,6 +52,12 @@ uint32_t netlist_input(struct netlist *net, uint8_t width);
 
 /* Append an output of signal a, which keeps and asks for these bits only. */
 uint32_t netlist_output(struct netlist *net, uint32_t a, uint64_t keep);
+
+/* The place, 0 for a and 1 for b, of the only constant that an and or an or
+   reads, and -1 for any other record. Then the bits in which the result hangs
+   on this constant alone; none for any other record. */
+int netlist_constant(const struct netlist *net, uint32_t number);
+uint64_t netlist_settled(const struct netlist *net, uint32_t number);
 
 void netlist_write(const struct netlist *net, struct file *file);
 

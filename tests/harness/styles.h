@@ -14,6 +14,7 @@ enum {
     STYLE_ARITHMETIC,
     STYLE_CHOICES,
     STYLE_DEEP,
+    STYLE_CUT, /* and most ands and ors then get a constant to read */
     STYLE_UNREAD,
     STYLES
 };

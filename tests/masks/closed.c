@@ -49,30 +49,41 @@ static void ask_for_moved(const uint8_t *file, const struct record *record,
         ask(a, w - 1, w - 1);
 }
 
-/* What this bit of D asks of the operands. */
-static void ask_for_bit(const uint8_t *file, const struct record *record,
-                        unsigned bit)
+/* Whether operand i of an and or an or is a constant that settles this bit
+   alone: by a 0 in an and, by a 1 in an or. Two constants may lean on each
+   other, so neither does. */
+static int settles(const uint8_t *file, const struct record *record,
+                   unsigned i, unsigned bit)
+{
+    struct record one = read_record(file, record->operand[i]);
+    int is_set = (one.k >> bit & 1) != 0 && (one.keep >> bit & 1) != 0;
+
+    return one.kind == KIND_CONSTANT
+        && kind_at(file, record->operand[1 - i]) != KIND_CONSTANT
+        && is_set == (record->kind == KIND_OR);
+}
+
+/* What this bit of the D of an and or an or asks: of each operand the same
+   bit, unless the other one settles it. */
+static void ask_unsettled(const uint8_t *file, const struct record *record,
+                          unsigned bit)
+{
+    unsigned i;
+
+    for (i = 0; i < 2; i++)
+        if (!settles(file, record, 1 - i, bit))
+            ask(record->operand[i], bit, bit);
+}
+
+/* What this bit of the D of a mux, an xor, a sum or a comparison asks of the
+   two operands that it asks alike, and a mux of its selector. */
+static void ask_alike(const uint8_t *file, const struct record *record,
+                      unsigned bit)
 {
     uint32_t a = record->operand[0], b = record->operand[1];
     unsigned lowest = bit, highest = bit;
 
     switch (record->kind) {
-    case KIND_INPUT:
-    case KIND_CONSTANT:
-        return;
-    case KIND_REGISTER:
-    case KIND_OUTPUT:
-        ask(a, bit, bit);
-        return;
-    case KIND_CONCAT:
-        ask_for_part(file, record, bit);
-        return;
-    case KIND_EXTRACT:
-    case KIND_LEFT_SHIFT:
-    case KIND_RIGHT_SHIFT:
-    case KIND_ARITHMETIC_SHIFT:
-        ask_for_moved(file, record, bit);
-        return;
     case KIND_MUX:
         ask(a, 0, 0);
         a = record->operand[2];
@@ -89,6 +100,36 @@ static void ask_for_bit(const uint8_t *file, const struct record *record,
     }
     ask(a, lowest, highest);
     ask(b, lowest, highest);
+}
+
+/* What this bit of D asks of the operands. */
+static void ask_for_bit(const uint8_t *file, const struct record *record,
+                        unsigned bit)
+{
+    switch (record->kind) {
+    case KIND_INPUT:
+    case KIND_CONSTANT:
+        return;
+    case KIND_REGISTER:
+    case KIND_OUTPUT:
+        ask(record->operand[0], bit, bit);
+        return;
+    case KIND_CONCAT:
+        ask_for_part(file, record, bit);
+        return;
+    case KIND_AND:
+    case KIND_OR:
+        ask_unsettled(file, record, bit);
+        return;
+    case KIND_EXTRACT:
+    case KIND_LEFT_SHIFT:
+    case KIND_RIGHT_SHIFT:
+    case KIND_ARITHMETIC_SHIFT:
+        ask_for_moved(file, record, bit);
+        return;
+    default:
+        ask_alike(file, record, bit);
+    }
 }
 
 /* An output has all its bits. What D asks for was asked before but for its new

@@ -35,6 +35,36 @@ static void note_shift(struct facts *facts, const struct record *record,
              (d & filled) != 0 && (d << k >> (record->width - 1) & 1) == 0);
 }
 
+/* How the D of an and or an or asks: whether it reads a constant, and what
+   this leaves of D. */
+static void note_cut(struct facts *facts, const struct netlist *net,
+                     uint32_t number, uint64_t d)
+{
+    const uint32_t *operand = net->records[number].operand;
+    const struct record *a = &net->records[operand[0]];
+    const struct record *b = &net->records[operand[1]];
+    uint64_t lost = d & netlist_settled(net, number);
+    int place = netlist_constant(net, number);
+    int are_two = a->kind == KIND_CONSTANT && b->kind == KIND_CONSTANT;
+    uint64_t cleared = place == 0 ? a->k & ~a->keep : b->k & ~b->keep;
+    uint64_t unlike = (a->k & a->keep) ^ (b->k & b->keep);
+
+    fact(facts, "a is the constant, D loses bits", lost != 0 && place == 0);
+    fact(facts, "b is the constant, D loses bits", lost != 0 && place == 1);
+    fact(facts, "D loses all bits", lost != 0 && lost == d);
+    fact(facts, "D loses some bits", lost != 0 && lost != d);
+    fact(facts, "D loses nothing by a constant",
+         d != 0 && lost == 0 && place >= 0);
+    fact(facts, "the constant's k has a bit in D that is not kept",
+         place >= 0 && (d & cleared) != 0);
+    fact(facts, "both are constants, unlike in D",
+         are_two && (d & unlike) != 0);
+    fact(facts, "both are the same constant",
+         are_two && operand[0] == operand[1] && d != 0);
+    fact(facts, "neither is a constant",
+         d != 0 && place < 0 && !are_two);
+}
+
 /* How its D asks, for kinds that ask in several ways. */
 static void note_asking(struct facts *facts, const struct netlist *net,
                         uint32_t number, uint64_t d)
@@ -60,6 +90,8 @@ static void note_asking(struct facts *facts, const struct netlist *net,
     }
     if (record->kind == KIND_MUX)
         fact(facts, "D has bits but not bit 0", d != 0 && (d & 1) == 0);
+    if (kind_cuts(record->kind))
+        note_cut(facts, net, number, d);
     if (kind_shifts(record->kind))
         note_shift(facts, record, d);
     if (record->kind >= KIND_ADD && record->kind <= KIND_MUL) {

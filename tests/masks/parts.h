@@ -8,6 +8,9 @@
 
 void masks_grid(void);
 void masks_moved(void);
+void masks_constants(void);
+void masks_least(void);
+void masks_columns(void);
 void masks_feedback(void);
 void masks_drawn(uint64_t seed);
 

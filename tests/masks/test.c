@@ -201,6 +201,9 @@ int main(int argc, char **argv)
                expect_masks);
     masks_grid();
     masks_moved();
+    masks_constants();
+    masks_least();
+    masks_columns();
     masks_feedback();
     masks_drawn(seed);
     printf("%lu files tried\n", trials_made());

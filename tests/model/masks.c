@@ -73,6 +73,27 @@ static uint64_t asked_by_shift(const struct record *record, uint64_t d)
     return (d << k) & full;
 }
 
+/* The care rule of and and or. Where exactly one operand is a constant, v
+   being its value, the other has D and v, or D without v. The constant itself
+   has D. */
+static void ask_masked(struct work *work, const uint8_t *file,
+                       const struct record *record, uint64_t d)
+{
+    const uint32_t *operand = record->operand;
+    int a_is_constant = kind_at(file, operand[0]) == KIND_CONSTANT;
+    int b_is_constant = kind_at(file, operand[1]) == KIND_CONSTANT;
+    struct record constant = read_record(file, operand[b_is_constant]);
+    uint64_t v = constant.k & constant.keep;
+
+    if (a_is_constant == b_is_constant) {
+        ask_both(work, operand, d);
+        return;
+    }
+    ask(work, operand[b_is_constant], d);
+    ask(work, operand[a_is_constant],
+        record->kind == KIND_AND ? d & v : d & ~v);
+}
+
 /* The care rules of the kinds that ask a and b for the same. */
 static void ask_alike(struct work *work, const uint8_t *file,
                       const struct record *record, uint64_t d)
@@ -80,8 +101,6 @@ static void ask_alike(struct work *work, const uint8_t *file,
     const uint32_t *operand = record->operand;
 
     switch (record->kind) {
-    case KIND_AND:
-    case KIND_OR:
     case KIND_XOR:
         ask_both(work, operand, d);
         break;
@@ -116,6 +135,10 @@ static void ask_operands(struct work *work, const uint8_t *file,
         break;
     case KIND_CONCAT:
         ask_parts(work, operand, width_at(file, operand[1]), d);
+        break;
+    case KIND_AND:
+    case KIND_OR:
+        ask_masked(work, file, record, d);
         break;
     case KIND_MUX:
         ask(work, operand[0], d != 0);

@@ -21,17 +21,20 @@ static unsigned long sum(const unsigned long *counts, unsigned many)
     return all;
 }
 
+/* By the bits of pair.h. */
+static const char *const met_names[MET_BITS] = {
+    "a value differed outside its mask", "a word at an input differed",
+    "a state differed outside its mask",
+    "a state differed in a bit of its mask that the keep word clears",
+    "an output was not 0", "a start in mid-run",
+    "more cycles on end than registers", "the selector of a mux differed",
+    "bits that a constant does away with differed"
+};
+
 void runs_note_pair(const struct masked *masked, unsigned sort,
                     const struct run *first, const struct run *second,
                     unsigned met)
 {
-    static const char *const met_names[MET_BITS] = {
-        "a value differed outside its mask", "a word at an input differed",
-        "a state differed outside its mask",
-        "a state differed in a bit of its mask that the keep word clears",
-        "an output was not 0", "a start in mid-run",
-        "more cycles on end than registers", "the selector of a mux differed"
-    };
     static const char *const refused_names[2][REFUSED_CYCLES] = {
         { "first run refused by 11", "by 12", "by 12 for its first state" },
         { "second run refused by 11", "by 12", "by 12 for its first state" }
@@ -47,6 +50,9 @@ void runs_note_pair(const struct masked *masked, unsigned sort,
         fact(f, refused_names[0][i], first->refused[i] != 0);
         fact(f, refused_names[1][i], second->refused[i] != 0);
     }
+    if (sort != 0)
+        fact(f, "so did the constant, outside its mask",
+             (met & CONSTANT_DIFFERED) != 0);
     fact(f, "one run has more calls",
          sum(first->refused, REFUSED_CYCLES)
          != sum(second->refused, REFUSED_CYCLES));

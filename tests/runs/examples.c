@@ -151,6 +151,38 @@ static void dead_mode(void)
     }
 }
 
+/* Of a status word bits 2 and 5 are cared for: an and with 3c does away with
+   others, and an or sets bits 3 and 4. For those the and needs no pattern. */
+static void cut_status(void)
+{
+    static const uint64_t words[4][2] = {
+        { 0xff, 0x24 }, { 0x00, 0xdb }, { 0x20, 0xfb }, { 0x04, 0xdf }
+    };
+    static const uint64_t outputs[4] = { 0x3c, 0x18, 0x38, 0x1c };
+    unsigned i;
+
+    if (masked.masks[0] != 0x24 || masked.masks[1] != 0xe7
+        || masked.masks[3] != 0xff)
+        test_fail();
+    for (i = 0; i < 8; i++) {
+        cycle(&words[i / 2][i % 2], 5, outputs[i / 2]);
+        if (!(sort & SCRAMBLED)
+            && run_values(&run)[1] != (sort & TRIMMED ? 0x24 : 0x3c))
+            test_fail();
+    }
+}
+
+static void make_cut_status(struct netlist *net)
+{
+    netlist_clear(net);
+    netlist_input(net, 8);
+    netlist_add(net, KIND_CONSTANT, 8, 0, 0, 0, 0x3c);
+    netlist_add(net, KIND_AND, 8, 0, 1, 0, 0);
+    netlist_add(net, KIND_CONSTANT, 8, 0, 0, 0, 0x18);
+    netlist_add(net, KIND_OR, 8, 3, 2, 0, 0);
+    netlist_output(net, 4, 0xff);
+}
+
 static void make_dead_mode(struct netlist *net)
 {
     netlist_clear(net);
@@ -202,6 +234,9 @@ void runs_examples(void)
     make_dead_mode(net);
     each_sort("runs: every mode, where it selects for a mux without effect",
               dead_mode);
+    make_cut_status(net);
+    each_sort("runs: a status word, and its pattern, that differ in cut bits",
+              cut_status);
     make_signed_angle(net);
     each_sort("runs: a signed angle, words that differ in bits shifted out",
               signed_angle);

@@ -101,14 +101,34 @@ static void start_all(void)
     on_end = 0;
 }
 
+/* The bits in which a value of this run's cycle is not the first's. */
+static uint64_t differing(unsigned sort, uint32_t number)
+{
+    return run_values(&first)[number] ^ run_values(&seconds[sort])[number];
+}
+
 /* Whether the record is a mux that takes another operand in this run than in
    the first, as only one with D 0 may. */
 static int selector_differed(unsigned sort, uint32_t number)
 {
-    uint32_t a = record(number)->operand[0];
-
     return record(number)->kind == KIND_MUX
-        && run_values(&first)[a] != run_values(&seconds[sort])[a];
+        && differing(sort, record(number)->operand[0]) != 0;
+}
+
+/* What an and or an or with one constant met: the word that is cut differed
+   where the constant alone decides on bits of D, and perhaps the constant did
+   so elsewhere. */
+static unsigned cut_met(unsigned sort, uint32_t number)
+{
+    int place = netlist_constant(&masked->net, number);
+    const uint32_t *operand = record(number)->operand;
+    uint64_t d = masked->masks[number] & record(number)->keep;
+
+    if (place < 0 || (differing(sort, operand[1 - place]) & d
+                      & netlist_settled(&masked->net, number)) == 0)
+        return 0;
+    return differing(sort, operand[place]) == 0
+        ? CUT_BITS_DIFFERED : CUT_BITS_DIFFERED | CONSTANT_DIFFERED;
 }
 
 /* The claim, for the cycle that both have just made. */
@@ -125,6 +145,7 @@ static void compare(unsigned sort)
         met[sort] |= one != two ? VALUE_DIFFERED : 0;
         met[sort] |= is_output && one != 0 ? OUTPUT_NOT_ZERO : 0;
         met[sort] |= selector_differed(sort, i) ? SELECTOR_DIFFERED : 0;
+        met[sort] |= cut_met(sort, i);
         if (((one ^ two) & mask) == 0 && (!is_output || one == two)
             && (sort != TRIMMED || (two & ~mask) == 0))
             continue;

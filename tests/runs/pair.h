@@ -22,7 +22,11 @@ enum {
     START_IN_MID_RUN = 32,
     MANY_CYCLES = 64,        /* more on end than there are registers, and any */
     SELECTOR_DIFFERED = 128, /* that of a mux */
-    MET_BITS = 8
+    CUT_BITS_DIFFERED = 256, /* those that an and or an or with a constant
+                                does away with, though they are in its D */
+    MET_BITS = 9,
+    CONSTANT_DIFFERED = 512  /* beside such bits; only where a value may be
+                                another than the file's */
 };
 
 /* Notes a pair that has ended, and judges at the end whether the pairs met

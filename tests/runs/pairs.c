@@ -9,21 +9,29 @@
 
 enum { FIRST = 8000000 /* apart from the numbers of other tests */ };
 
-/* Counts from the least to the most, or any; calls by the count, or so many;
-   and chains, each with a register more than the last. */
+/* Designs of each style in turn, words cut with constants, or chains, each
+   with a register more than the last. */
+enum design { BY_TURN, CUT_WORDS, CHAINS };
+
+/* Counts from the least to the most, or any; calls by the count, or so
+   many. */
 static const struct batch {
     const char *name;
     uint32_t designs, least, most;
     unsigned calls;
-    int chains;
+    enum design design;
 } batches[] = {
-    { "generated: pairs: designs of all sizes", 6750, 0, 0, 0, 0 },
-    { "generated: pairs: designs with 0 to 6 records", 1400, 0, 6, 0, 0 },
-    { "generated: pairs: designs with 2,048 records", 42, 2048, 2048, 0, 0 },
+    { "generated: pairs: designs of all sizes", 6750, 0, 0, 0, BY_TURN },
+    { "generated: pairs: designs with 0 to 6 records", 1400, 0, 6, 0,
+      BY_TURN },
+    { "generated: pairs: designs with 2,048 records", 42, 2048, 2048, 0,
+      BY_TURN },
     { "generated: pairs: 1,000 calls, most of them cycles", 42, 5, 60, 1000,
-      0 },
+      BY_TURN },
+    { "generated: pairs: words cut with constants", 3000, 4, 80, 0,
+      CUT_WORDS },
     { "generated: pairs: chains of 1 to 80 registers, run through", 80, 0, 0,
-      0, 1 }
+      0, CHAINS }
 };
 
 static struct masked masked;
@@ -45,7 +53,7 @@ static unsigned calls_for(struct rng *rng, const struct batch *batch)
 
     if (batch->calls > 0)
         return batch->calls;
-    if (batch->chains)
+    if (batch->design == CHAINS)
         return 2 * count + 6;
     if (count <= 100)
         return rng_between(rng, 3, count <= 12 ? 30 : 16);
@@ -72,6 +80,16 @@ static void make_chain(struct rng *rng, uint32_t registers)
     netlist_output(net, 0, design_word(rng, width));
 }
 
+/* Design i of the batch. */
+static void make_design(struct rng *rng, const struct batch *batch, uint32_t i)
+{
+    if (batch->design == CHAINS)
+        make_chain(rng, i + 1);
+    else
+        design_by_turn(rng, &masked.net, count_for(rng, batch),
+                       batch->design == CUT_WORDS ? STYLE_CUT : i);
+}
+
 void runs_pairs(uint64_t seed)
 {
     unsigned long made = FIRST;
@@ -82,11 +100,7 @@ void runs_pairs(uint64_t seed)
         for (i = 0; i < batches[j].designs; i++) {
             struct rng rng = rng_for(seed, made++);
 
-            if (batches[j].chains)
-                make_chain(&rng, i + 1);
-            else
-                design_by_turn(&rng, &masked.net,
-                               count_for(&rng, &batches[j]), i);
+            make_design(&rng, &batches[j], i);
             trim_netlist(&masked);
             try_pairs(&masked, &rng, calls_for(&rng, &batches[j]));
         }

@@ -1,6 +1,6 @@
 -- Two cycles, one of a design and one of a design that follows it, with values changed outside the masks: where the words at inputs and
 -- registers agree on D, all values agree on the masks. Assumes nothing.
-use mathlib.Core.Path.{_≡_, sym, subst}
+use mathlib.Core.Path.{_≡_, sym, subst, _∙_}
 use mathlib.Core.Bool.{true}
 use mathlib.Core.List.{List, [], _∷_}
 use Prim.Native.Nat.{ℕ, zero, suc, _^_, _<_}
@@ -19,6 +19,7 @@ use Rattle.signal.specs.Asks.{demandOf, asked, Granted}
 use Rattle.signal.specs.AskLists.{Named}
 use Rattle.signal.specs.declared.Ask.{Ask}
 use Rattle.signal.proofs.AskedOperands.{asked-below}
+use Rattle.signal.proofs.ConstantLaws.{Fixed, constant-value}
 use Rattle.signal.proofs.ResultLaws.{AllMet, result-agree}
 use Rattle.care.specs.Least.{Closed, maskAt}
 use Rattle.clock.specs.Values.{unchanged, valueAt, valuesOf}
@@ -26,19 +27,22 @@ use Rattle.clock.proofs.ValueLaws.{length-values, value-defined, values-narrow}
 use Rattle.agreement.proofs.Follow.{Follows, result-follows}
 use Rattle.agreement.proofs.ScrambleLaws.{Gentle}
 
--- Two values of signal i agree on its mask and lie within its width.
+-- Two values of signal i agree on its mask and lie within its width, and in the first run a constant has its value.
 pub record Close (d : Design) (M : ℕ → ℕ) (values values′ : List ℕ) (i : ℕ) : Type 0 where
   pub agree : Agree (M i) (wordAt values i) (wordAt values′ i)
   pub first : wordAt values i < 2 ^ d .at i .width
   pub second : wordAt values′ i < 2 ^ d .at i .width
+  pub fixed : Fixed (d .at i) (wordAt values i)
 
 -- where the operands' values are close and the masks grant what is asked, two runs have in common what is asked
 all-met : (d : Design) (M : ℕ → ℕ) (i : ℕ) (x x′ : List ℕ) → ((j : ℕ) → j < i → Close d M x x′ j) → (asks : List Ask) → Named i asks → Granted asks M
     → AllMet (d .at) (wordAt x) (wordAt x′) asks
 all-met d M i x x′ below [] n g = tt
 all-met d M i x x′ below (a ∷ asks) n g =
-    let c = below (a .operand) (n .0) in
-    (record { agree = agree-within (g .0) (c .agree); first = c .first; second = c .second }, all-met d M i x x′ below asks (n .1) (g .1))
+    let c = below (a .operand) (n .0) in (
+      record { agree = agree-within (g .0) (c .agree); first = c .first; second = c .second; fixed = c .fixed },
+      all-met d M i x x′ below asks (n .1) (g .1),
+    )
 
 module _ (d e : Design) (sd : Sound d) (se : Sound e) (masks : List ℕ) (seed : ℕ → ℕ) (closed : Closed d seed (maskAt masks))
     (f : Follows d e (maskAt masks)) (change : ℕ → ℕ → ℕ) (g : Gentle d masks change) (board board′ : List ℕ)
@@ -75,7 +79,12 @@ module _ (d e : Design) (sd : Sound d) (se : Sound e) (masks : List ℕ) (seed :
         let other = getD-set-other values i j (wordAt board i) 0 (λ q. omega arith) in
         let other′ = getD-set-other values′ i j (wordAt board′ i) 0 (λ q. omega arith) in
         let c = below j l in
-        record { agree = rw (other, other′) (c .agree); first = rw other (c .first); second = rw other′ (c .second) }
+        record {
+          agree = rw (other, other′) (c .agree);
+          first = rw other (c .first);
+          second = rw other′ (c .second);
+          fixed = λ q. other ∙ c .fixed q;
+        }
 
     results : Agree (demandOf (d .at i) m) (resultAt (d .at) (wordAt x) i) (resultAt (d .at) (wordAt x′) i)
     results =
@@ -98,6 +107,7 @@ module _ (d e : Design) (sd : Sound d) (se : Sound e) (masks : List ℕ) (seed :
           second =
               subst (λ (w : ℕ). wordAt values′ i < 2 ^ w) (sym (f .width i h))
               (values-narrow e se change board′ size′ i in-second (λ v l. narrow v l));
+          fixed = λ q. defined ∙ constant-value (d .at) (wordAt x) i q;
         }
       where
         narrow : (v : ℕ) → v < 2 ^ e .at i .width → change i v < 2 ^ e .at i .width

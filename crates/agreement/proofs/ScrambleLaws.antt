@@ -1,16 +1,16 @@
 -- What scrambling does to a value: the bits of the mask stay, no bit beyond the width is set, and all others can become anything.
 -- Assumes nothing.
-use mathlib.Core.Path.{_≡_, ap, ap₂, _∙_}
+use mathlib.Core.Path.{_≡_, ap₂, _∙_}
 use mathlib.Core.List.{List}
 use mathlib.Core.Logic.{_⊎_, inl, inr}
 use Prim.Native.Nat.{ℕ, _^_, _≤_, _<_, min, max}
 use native.Mathlib.Omega.{arith}
-use lib.Bits.{bitAnd, differ, or-lt, xor-lt}
+use lib.Bits.{bitAnd, or-lt}
 use Rattle.bits.specs.Masks.{bit, Agree}
 use Rattle.bits.specs.Words.{lowMask}
 use Rattle.bits.proofs.Agreement.{agree-refl, agree-by-bits, agree-bit}
-use Rattle.bits.proofs.Digits.{bit-lt, bit-cases, bits-ext, bit-and, bit-or, bit-xor, bit-low, bit-beyond}
-use Rattle.bits.proofs.Order.{within-lt, within-refl, low-within, meet-left, meet-right}
+use Rattle.bits.proofs.Digits.{bit-lt, bit-cases, bits-ext, bit-and, bit-or, bit-without, bit-low, bit-beyond}
+use Rattle.bits.proofs.Order.{within-lt, low-within, meet-left, meet-right, without-within}
 use Rattle.netlist.specs.Layout.{Design}
 use Rattle.care.specs.Least.{maskAt}
 use Rattle.care.proofs.Families.{below-or-not}
@@ -20,19 +20,10 @@ use Rattle.agreement.specs.Scrambled.{outside, scramble, Manner, plain, 
 
 -- a bit of the mask is not outside, and every other bit of the width is
 outside-cared : (w m i : ℕ) → bit m i ≡ 1 → bit (outside w m) i ≡ 0
-outside-cared w m i e =
-    bit-xor (lowMask w) (bitAnd m (lowMask w)) i
-    ∙ ap (differ (bit (lowMask w) i)) (bit-and m (lowMask w) i ∙ ap (λ (b : ℕ). min b (bit (lowMask w) i)) e)
-    ∙ differ-self (bit (lowMask w) i) (bit-cases (lowMask w) i)
-  where
-    differ-self : (b : ℕ) → (b ≡ 0) ⊎ (b ≡ 1) → differ b (min 1 b) ≡ 0
-    differ-self b (inl q) = rw q
-    differ-self b (inr q) = rw q
+outside-cared w m i e = let p = bit-without (lowMask w) m i in let l = bit-lt (lowMask w) i in omega arith
 
 outside-free : (w m i : ℕ) → bit m i ≡ 0 → i < w → bit (outside w m) i ≡ 1
-outside-free w m i e h =
-    bit-xor (lowMask w) (bitAnd m (lowMask w)) i
-    ∙ ap₂ differ (bit-low w i h) (bit-and m (lowMask w) i ∙ ap₂ min e (bit-low w i h))
+outside-free w m i e h = let p = bit-without (lowMask w) m i in let l = bit-low w i h in omega arith
 
 bit-scrambled : (w m noise value i : ℕ) → bit (scramble w m noise value) i ≡ max (min (bit value i) (bit m i)) (min (bit noise i) (bit (outside w m) i))
 unfolding scramble
@@ -59,9 +50,7 @@ scramble-narrow w m noise value h =
     (within-lt w (meet-right noise (outside w m)) (outside-lt w m))
   where
     outside-lt : (w m : ℕ) → outside w m < 2 ^ w
-    outside-lt w m =
-        let low = low-within w (within-refl (lowMask w)) in
-        xor-lt w (lowMask w) (bitAnd m (lowMask w)) low (within-lt w (meet-right m (lowMask w)) low)
+    outside-lt w m = low-within w (without-within (lowMask w) m)
 
 -- and any word within the width that agrees on the mask can come out
 pub scramble-any : (w m value other : ℕ) → value < 2 ^ w → other < 2 ^ w → Agree m other value → scramble w m other value ≡ other

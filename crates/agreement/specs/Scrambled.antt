@@ -2,7 +2,8 @@
 -- Assumes nothing.
 use mathlib.Core.List.{List}
 use Prim.Native.Nat.{ℕ}
-use lib.Bits.{bitAnd, bitOr, bitXor}
+use lib.Bits.{bitAnd, bitOr}
+use Rattle.bits.specs.Masks.{without}
 use Rattle.bits.specs.Words.{lowMask}
 use Rattle.netlist.specs.Layout.{Design}
 use Rattle.care.specs.Least.{maskAt}
@@ -10,7 +11,7 @@ use Rattle.clock.specs.Values.{unchanged}
 
 -- "the bits of it within its width and outside its mask", for a width w and a mask m
 abbrev pub outside : ℕ → ℕ → ℕ
-outside w m = bitXor (lowMask w) (bitAnd m (lowMask w))
+outside w m = without (lowMask w) m
 
 -- "are set to anything": to those of `noise`. The bits of the mask stay; a value has none beyond its width.
 unfoldable pub scramble : ℕ → ℕ → ℕ → ℕ → ℕ

@@ -9,7 +9,7 @@ use native.Mathlib.Omega.{arith}
 use lib.Arith.{half-le, le-zero, lt-one, digits-mod}
 use lib.Bits.{bitAnd, bitOr, bitXor, differ, and-step, or-step, xor-step, and-shr, or-shr, xor-shr}
 use lib.Pow.{pow-mono, shl-shr, shr-shr, field, mod-mod-pow, high, low, ones-lt, ones-split}
-use Rattle.bits.specs.Masks.{bit}
+use Rattle.bits.specs.Masks.{bit, without}
 
 pub bit-lt : (x i : ℕ) → bit x i < 2
 bit-lt x i = mod-lt (x / 2 ^ i) (zero-lt-suc 1)
@@ -74,6 +74,16 @@ differ-lt (suc (suc x)) (suc y) hx hy = absurd (not-suc-le-zero (le-of-suc-le-su
 
 pub bit-xor : (a b i : ℕ) → bit (bitXor a b) i ≡ differ (bit a i) (bit b i)
 bit-xor = bit-op bitXor differ xor-step xor-shr differ-lt
+
+pub bit-without : (a b i : ℕ) → bit (without a b) i ≡ bit a i - bit b i
+bit-without a b i =
+    bit-xor a (bitAnd b a) i ∙ ap (differ (bit a i)) (bit-and b a i) ∙ cleared (bit a i) (bit b i) (bit-cases a i) (bit-cases b i)
+  where
+    cleared : (x y : ℕ) → (x ≡ 0) ⊎ (x ≡ 1) → (y ≡ 0) ⊎ (y ≡ 1) → differ x (min y x) ≡ x - y
+    cleared x y (inl p) (inl q) = rw (p, q)
+    cleared x y (inl p) (inr q) = rw (p, q)
+    cleared x y (inr p) (inl q) = rw (p, q)
+    cleared x y (inr p) (inr q) = rw (p, q)
 
 -- ---- beyond a word's width
 

@@ -1,13 +1,14 @@
--- Masks ordered by their ones: Within is a partial order with joins and meets, and a low mask bounds a width.
+-- Masks ordered by their ones: Within is a partial order with joins, meets and differences, and a low mask bounds a width.
 -- Assumes nothing.
 use mathlib.Core.Path.{_≡_, refl, sym, ap, _∙_, subst}
 use Prim.Native.Nat.{ℕ, _≤_, _<_, _^_}
 use native.Mathlib.Nat.{le-trans, le-of-eq, le-antisymm, lt-of-le-of-lt, lt-of-lt-of-le, le-of-suc-le-suc, mod-eq-of-lt, min-le-left, min-le-right, min-eq-left, le-min, le-max-left, max-le}
+use native.Mathlib.Omega.{arith}
 use lib.Bits.{bitAnd, bitOr, and-le-r, and-comm, or-comm, and-mask, and-self}
 use lib.Pow.{pow-mono, ones-lt, lt-of-le-ones}
-use Rattle.bits.specs.Masks.{bit, Within}
+use Rattle.bits.specs.Masks.{bit, Within, without}
 use Rattle.bits.specs.Words.{lowMask}
-use Rattle.bits.proofs.Digits.{bit-lt, bits-ext, bit-and, bit-or}
+use Rattle.bits.proofs.Digits.{bit-lt, bits-ext, bit-and, bit-or, bit-without}
 
 -- ---- within, bit by bit
 
@@ -66,6 +67,15 @@ meet-greatest {a} {b} h g = within-by-bits (λ i. le-trans (le-min (within-bit h
 
 pub meet-mono : {a b : ℕ} (k : ℕ) → Within a b → Within (bitAnd a k) (bitAnd b k)
 meet-mono {a} k h = meet-greatest (within-trans (meet-left a k) h) (meet-right a k)
+
+-- ---- differences
+
+pub without-mono : {a b : ℕ} (k : ℕ) → Within a b → Within (without a k) (without b k)
+without-mono {a} {b} k h =
+    within-by-bits (λ i. let p = bit-without a k i in let q = bit-without b k i in let l = within-bit h i in omega arith)
+
+pub without-within : (a k : ℕ) → Within (without a k) a
+without-within a k = within-by-bits (λ i. let p = bit-without a k i in omega arith)
 
 -- ---- low masks
 

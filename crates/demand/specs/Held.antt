@@ -2,6 +2,7 @@
 -- Assumes nothing.
 use mathlib.Core.List.{List, [], _∷_}
 use Prim.Native.Nat.{ℕ, _+_, _≤_}
+use lib.Bits.{bitAnd, bitXor}
 use lib.ListN.{length, take}
 use Rattle.netlist.specs.Limits.{maxWidth}
 use Rattle.netlist.specs.Kinds.{usesOf, widthRules}
@@ -14,6 +15,15 @@ use Rattle.demand.specs.declared.Asks.{Asks}
 -- The asks that the code's struct holds.
 abbrev pub listed : Asks → List Ask
 listed r = take (r .count) (r .first ∷ r .second ∷ r .third ∷ [])
+
+-- D cut by v as the code does it, some bits inverted: D and v with none, D without v with those of D.
+abbrev pub cutInverting : ℕ → ℕ → ℕ → ℕ
+cutInverting inverted D v = bitXor inverted (bitAnd v D)
+
+-- The file holds records a and b.
+pub record Holds (file : List ℕ) (a b : ℕ) : Type 0 where
+  pub first : recordStart a + recordSize ≤ length file
+  pub second : recordStart b + recordSize ≤ length file
 
 -- The file holds the first two operands of a kind, they are words of at most 64 bits, and a record of some width keeps the kind's rule.
 pub record Readable (file : List ℕ) (kind : Kind) : Type 0 where

@@ -5,21 +5,26 @@ use bits::arith::shr;
 use bits::mask::bit_length;
 use bits::mask::cut_to;
 use bits::mask::low_mask;
+use netlist::layout::code_at;
+use netlist::layout::fields_at;
 use netlist::layout::keep_at;
 use netlist::layout::record_at;
 use netlist::layout::width_at;
 use netlist::record::Kind;
+use netlist::record::Record;
 use signal::Ask;
 ghost use mathlib.Core.Path.{_≡_};
+ghost use mathlib.Core.Bool.{true};
 ghost use mathlib.Core.List.{[], _∷_};
 ghost use Prim.Native.Nat.{_+_, _≤_, _<_};
 ghost use lib.Bits.{bitOr};
 ghost use lib.ListN.{length};
 ghost use Rattle.bits.specs.Words.{cut, down};
+ghost use Rattle.netlist.specs.Kinds.{isConstant};
 ghost use Rattle.netlist.specs.Layout.{designOf, countOf, recordStart, recordSize};
 ghost use Rattle.rules.specs.Sound.{Acceptance};
-ghost use Rattle.signal.specs.Asks.{ask, upToHighest, ifAny, allIfAny, upWithin, topIfCopied, asksOf, demandOf};
-ghost use Rattle.demand.specs.Held.{listed, Readable};
+ghost use Rattle.signal.specs.Asks.{ask, upToHighest, ifAny, allIfAny, upWithin, topIfCopied, constantValue, beside, eachBeside, asksOf, demandOf};
+ghost use Rattle.demand.specs.Held.{listed, cutInverting, Holds, Readable};
 
 // What a record asks: the first `count` of three.
 pub struct Asks {
@@ -151,6 +156,51 @@ fn of_arithmetic_shift(a: usize, k: u64, w: u64, d: u64) -> Asks
     Asks::one(a, up_within(d, k, w) | top_if_copied(d, k, w))
 }
 
+// Whether record i is a constant.
+fn is_constant(file: &[u8], i: usize) -> bool
+    requires { ⌜ recordStart i + recordSize ≤ length (now file) ⌝ }
+    ensures { λ r. ⌜ r ≡ isConstant (designOf (now (file .entry)) .at i .kind) ⌝ }
+{
+    let code = code_at(file, i);
+    code == Record::CONSTANT
+}
+
+// The value of record i, a constant.
+fn constant_value(file: &[u8], i: usize) -> u64
+    requires { ⌜ (recordStart i + recordSize ≤ length (now file)) × (isConstant (designOf (now file) .at i .kind) ≡ true) ⌝ }
+    ensures { λ r. ⌜ r ≡ constantValue (designOf (now (file .entry)) .at i) ⌝ }
+{
+    let fields = fields_at(file, i);
+    let k = fields.k;
+    let keep = keep_at(file, i);
+    k & keep
+}
+
+// What operand x is asked beside y: d, cut by the value of y where y alone is a constant.
+fn beside(file: &[u8], x: usize, y: usize, inverted: u64, d: u64) -> u64
+    requires { ⌜ Holds (now file) x y ⌝ }
+    ensures { λ r. ⌜ r ≡ beside (cutInverting inverted) (designOf (now (file .entry)) .at x) (designOf (now (file .entry)) .at y) d ⌝ }
+{
+    if !is_constant(file, y) {
+        return d;
+    }
+    let cut = inverted ^ (constant_value(file, y) & d);
+    if is_constant(file, x) { d } else { cut }
+}
+
+// An and of a and b, with 0 for `inverted`, or an or, with d.
+fn of_masking(file: &[u8], a: usize, b: usize, inverted: u64, d: u64) -> Asks
+    requires { ⌜ Holds (now file) a b ⌝ }
+    ensures { λ r. ⌜ listed r ≡ eachBeside (cutInverting inverted) (designOf (now (file .entry)) .at) a b d ⌝ }
+{
+    Asks::two(
+        a,
+        beside(file, a, b, inverted, d),
+        b,
+        beside(file, b, a, inverted, d),
+    )
+}
+
 // What a kind asks, with d for D.
 fn of_kind(file: &[u8], kind: Kind, d: u64) -> Asks
     requires { ⌜ Readable (now file) kind ⌝ }
@@ -163,8 +213,8 @@ fn of_kind(file: &[u8], kind: Kind, d: u64) -> Asks
         Kind::Output { a } => Asks::one(a, d),
         Kind::Extract { a, k } => Asks::one(a, shl(d, k)),
         Kind::Concat { a, b } => of_concat(a, b, width_at(file, b), d),
-        Kind::And { a, b } => Asks::two(a, d, b, d),
-        Kind::Or { a, b } => Asks::two(a, d, b, d),
+        Kind::And { a, b } => of_masking(file, a, b, 0, d),
+        Kind::Or { a, b } => of_masking(file, a, b, d, d),
         Kind::Xor { a, b } => Asks::two(a, d, b, d),
         Kind::Mux { a, b, c } => Asks::three(a, if_any(1, d), b, d, c, d),
         Kind::Add { a, b } => of_carries(a, b, d),

@@ -1,16 +1,16 @@
--- Laws of the table of kinds: numbers and kinds answer to each other, 3 alone is an output's number and 2 a register's, which kinds have
--- two operands, which are shifts and which are gates, unused fields are 0, and k is a word. Assumes nothing.
+-- Laws of the table of kinds: numbers and kinds answer to each other, 1 alone is a constant's number, 2 a register's and 3 an output's,
+-- which kinds have two operands, which are shifts and which are gates, unused fields are 0, and k is a word. Assumes nothing.
 use mathlib.Core.Path.{_≡_, refl, sym, ap, _∙_}
 use mathlib.Core.Bool.{Bool, true, false, cond, false≢true}
 use mathlib.Core.List.{List, [], _∷_, _++_}
 use Prim.Native.Nat.{ℕ, zero, suc, _+_, _-_, _^_, _≤_, _<_, compare·suc-suc}
 use native.Mathlib.Omega.{arith}
-use borrow.Author.Tests.{ne-eqb, ltb-true, ltb-false}
+use borrow.Author.Tests.{eqb-true, ne-eqb, ltb-true, ltb-false}
 use lib.Dec.{eqb, ltb, isEq, lit<}
 use lib.ListN.{getD, drop, replicate, List·getD-eq-default, List·getD-map}
 use Rattle.endian.specs.Lists.{wordsOf, wordsFrom}
 use Rattle.endian.proofs.ListLaws.{word-at}
-use Rattle.netlist.specs.Kinds.{kinds, kindOf, codeOf, shiftRange, usesOf, widthRules, isOutput, isRegister, operandsOf, one, two}
+use Rattle.netlist.specs.Kinds.{kinds, kindOf, codeOf, isConstant, shiftRange, usesOf, widthRules, isOutput, isRegister, operandsOf, one, two}
 use Rattle.netlist.specs.Limits.{kindCount}
 use Rattle.netlist.specs.Rules.{Rule, equal, below, AllHold, testAll}
 use Rattle.netlist.specs.declared.record.Fields.{Fields}
@@ -43,6 +43,11 @@ alone zero rest zero = refl
 alone zero rest (suc n) = everywhere rest n false ∙ sym (ne-eqb (suc n) 0 (λ e. omega arith))
 alone (suc m) rest zero = sym (ne-eqb 0 (suc m) (λ e. omega arith))
 alone (suc m) rest (suc n) = alone m rest n ∙ sym (ap isEq (compare·suc-suc n m))
+
+-- 1 alone is a constant's number
+pub constant-code : (code : ℕ) (f : Fields) → isConstant (kindOf code f) ≡ eqb code 1
+unfolding kindOf
+constant-code code f = sym (List·getD-map isConstant (kinds f) code Input) ∙ alone 1 17 code
 
 -- "names an output": 3 alone is an output's number, and 2 a register's
 pub output-code : (code : ℕ) (f : Fields) → isOutput (usesOf (kindOf code f) .role) ≡ eqb code 3
@@ -168,6 +173,11 @@ kind-back (LeftShift a k) = refl
 kind-back (RightShift a k) = refl
 kind-back (ArithmeticRightShift a k) = refl
 kind-back (SignedBelow a b) = refl
+
+-- a constant is the kind with its k
+pub is-constant : (kind : Kind) → isConstant kind ≡ true → kind ≡ Constant (usesOf kind .k)
+unfolding kindOf
+is-constant kind e = sym (kind-back kind) ∙ ap (λ (code : ℕ). kindOf code (usedFields (usesOf kind))) (eqb-true (codeOf kind) 1 e)
 
 pub code-low : (k : Kind) → codeOf k < kindCount
 code-low Input = lit< tt

@@ -3,6 +3,7 @@
 use mathlib.Core.Bool.{Bool, true, false}
 use mathlib.Core.List.{List, [], _∷_}
 use Prim.Native.Nat.{ℕ, _+_}
+use lib.Dec.{eqb}
 use lib.ListN.{getD, take}
 use Rattle.netlist.specs.Rules.{Rule, equal, below, atMost}
 use Rattle.netlist.specs.declared.record.Fields.{Fields}
@@ -61,6 +62,10 @@ codeOf (LeftShift a k) = 15
 codeOf (RightShift a k) = 16
 codeOf (ArithmeticRightShift a k) = 17
 codeOf (SignedBelow a b) = 18
+
+-- "is a constant": a record of kind 1.
+abbrev pub isConstant : Kind → Bool
+isConstant kind = eqb (codeOf kind) 1
 
 -- The numbers of the shifts.
 abbrev pub shiftRange : ℕ → List Rule

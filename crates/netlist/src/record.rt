@@ -76,6 +76,8 @@ impl Record {
 
     // Numbers of kinds that the code tests. Those below the register have no operand. Those below the concat have one, and so have the
     // shifts, which end before the signed below. Of the others only the mux has three.
+    pub const CONSTANT: u64 = 1;
+
     pub const REGISTER: u64 = 2;
 
     pub const OUTPUT: u64 = 3;

@@ -10,7 +10,7 @@ use lib.Bits.{bitOr}
 use lib.Dec.{eqb, ltb, eqb·suc-zero}
 use Rattle.bits.specs.Masks.{Agree}
 use Rattle.bits.specs.Words.{lowMask}
-use Rattle.bits.proofs.Agreement.{agree-refl, agree-zero, agree-and, agree-or, agree-xor, agree-equal, agree-cut, agree-extract, agree-concat}
+use Rattle.bits.proofs.Agreement.{agree-refl, agree-zero, agree-xor, agree-equal, agree-cut, agree-extract, agree-concat}
 use Rattle.bits.proofs.Congruence.{agree-sum, agree-difference, agree-product}
 use Rattle.bits.proofs.Order.{meet-right, within-lt}
 use Rattle.netlist.specs.Limits.{maxWidth}
@@ -26,18 +26,20 @@ use Rattle.rules.specs.Fit.{operandLimit, namesRules, operandRules, widthRulesA
 use Rattle.rules.specs.Sound.{Sound}
 use Rattle.rules.proofs.SoundLaws.{operands-below}
 use Rattle.signal.specs.Results.{arithmeticDown, signedAt, resultOf, resultAt}
-use Rattle.signal.specs.Asks.{ask, ifAny, allIfAny, upWithin, topIfCopied, asksOf, demandOf, asked}
+use Rattle.signal.specs.Asks.{ask, ifAny, allIfAny, upWithin, topIfCopied, eachBeside, asksOf, demandOf, asked}
 use Rattle.signal.specs.declared.Ask.{Ask}
+use Rattle.signal.proofs.ConstantLaws.{Fixed, Cutting, cutting-and, cutting-or, beside-enough}
 use Rattle.signal.proofs.ShiftLaws.{agree-left-shift, agree-right-shift, agree-arithmetic-shift}
 
 -- ---- what two runs have in common at an operand
 
--- Two runs at an operand of which a mask is asked: its values agree on the mask, and both lie within its width. A rule that goes by the
--- operand's own record, say by its being a constant, finds its premise here.
+-- Two runs at an operand of which a mask is asked: its values agree on the mask, both lie within its width, and in the first run a constant
+-- has its value.
 pub record Met (at : ℕ → Record) (v v′ : ℕ → ℕ) (x : Ask) : Type 0 where
   pub agree : Agree (x .mask) (v (x .operand)) (v′ (x .operand))
   pub first : v (x .operand) < 2 ^ at (x .operand) .width
   pub second : v′ (x .operand) < 2 ^ at (x .operand) .width
+  pub fixed : Fixed (at (x .operand)) (v (x .operand))
 
 abbrev pub AllMet : (ℕ → Record) → (ℕ → ℕ) → (ℕ → ℕ) → List Ask → Type 0
 AllMet at v v′ [] = Unit {0}
@@ -77,6 +79,10 @@ module _ (at : ℕ → Record) (v v′ : ℕ → ℕ) {w D : ℕ} (low : D < 2 ^
   selected : (a : ℕ) → at a .width ≡ 1 → Met at v v′ (ask a (ifAny 1 D)) → (D ≡ 0) ⊎ (v a ≡ v′ a)
   selected a e m = any-equal 1 D (subst (λ (u : ℕ). v a < 2 ^ u) e (m .first)) (subst (λ (u : ℕ). v′ a < 2 ^ u) e (m .second)) (m .agree)
 
+  masked : {op cutBy : ℕ → ℕ → ℕ} → Cutting op cutBy → (a b : ℕ) → AllMet at v v′ (eachBeside cutBy at a b D)
+      → Agree D (op (v a) (v b)) (op (v′ a) (v′ b))
+  masked c a b m = beside-enough c (at a) (at b) (m .0 .fixed) (m .1 .0 .fixed) (m .0 .agree) (m .1 .0 .agree)
+
   -- the shift is of the record's width, and asks by that of its operand
   shifted : (a k : ℕ) → at a .width ≡ w → k < w → Met at v v′ (ask a (bitOr (upWithin (at a .width) k D) (topIfCopied (at a .width) k D)))
       → Agree D (arithmeticDown w k (v a)) (arithmeticDown w k (v′ a))
@@ -97,8 +103,8 @@ module _ (at : ℕ → Record) (v v′ : ℕ → ℕ) {w D : ℕ} (low : D < 2 ^
   results-agree (Concat a b) own own′ n r held met =
       let m = met refl in
       agree-cut w low (agree-concat (at b .width) (m .1 .0 .first) (m .1 .0 .second) (m .0 .agree) (m .1 .0 .agree))
-  results-agree (And a b) own own′ n r held met = agree-and (met refl .0 .agree) (met refl .1 .0 .agree)
-  results-agree (Or a b) own own′ n r held met = agree-or (met refl .0 .agree) (met refl .1 .0 .agree)
+  results-agree (And a b) own own′ n r held met = masked cutting-and a b (met refl)
+  results-agree (Or a b) own own′ n r held met = masked cutting-or a b (met refl)
   results-agree (Xor a b) own own′ n r held met = agree-xor (met refl .0 .agree) (met refl .1 .0 .agree)
   results-agree (Mux a b c) own own′ n r held met =
       let m = met refl in

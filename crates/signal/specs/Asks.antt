@@ -1,12 +1,13 @@
 -- The care rules: what a record asks of its operands, kind by kind.
 -- Assumes nothing.
-use mathlib.Core.Bool.{cond}
+use mathlib.Core.Bool.{Bool, cond, not, _&&_}
 use mathlib.Core.List.{List, [], _∷_}
 use Prim.Native.Nat.{ℕ, _-_, _^_, _<_}
 use lib.Bits.{bitAnd, bitOr}
 use lib.Dec.{eqb}
-use Rattle.bits.specs.Masks.{Within}
+use Rattle.bits.specs.Masks.{Within, without}
 use Rattle.bits.specs.Words.{lowMask, cut, up, down, bitLength}
+use Rattle.netlist.specs.Kinds.{usesOf, isConstant}
 use Rattle.netlist.specs.Layout.{Design}
 use Rattle.netlist.specs.declared.record.Kind.{Kind}
 use Rattle.netlist.specs.declared.record.Kind.the-variants.{Input, Constant, Register, Output, Extract, Concat, And, Or, Xor, Mux, Add, Sub, Mul, Equal, Below, LeftShift, RightShift, ArithmeticRightShift, SignedBelow}
@@ -37,6 +38,27 @@ upWithin w k D = cut w (up k D)
 abbrev pub topIfCopied : ℕ → ℕ → ℕ → ℕ
 topIfCopied w k D = ifAny (2 ^ (w - 1)) (down (w - k) D)
 
+-- #104: "With v the constant's value (k and keep word)", bit by bit.
+abbrev pub constantValue : Record → ℕ
+constantValue r = bitAnd (usesOf (r .kind) .k) (r .keep)
+
+-- "D and v"
+abbrev pub both : ℕ → ℕ → ℕ
+both D v = bitAnd v D
+
+-- "where exactly one operand .. is a constant": y, and not x.
+abbrev pub isAlone : Record → Record → Bool
+isAlone x y = isConstant (y .kind) && not (isConstant (x .kind))
+
+-- What an operand x is asked beside the other operand y: beside a constant it has D cut by v. "The constant itself has D. If both operands are
+-- constants, the old rule holds", and so it does if none is: x has D.
+unfoldable pub beside : (ℕ → ℕ → ℕ) → Record → Record → ℕ → ℕ
+beside cutBy x y D = cond (isAlone x y) (cutBy D (constantValue y)) D
+
+-- What the operands a and b are asked, each beside the other.
+abbrev pub eachBeside : (ℕ → ℕ → ℕ) → (ℕ → Record) → ℕ → ℕ → ℕ → List Ask
+eachBeside cutBy at a b D = ask a (beside cutBy (at a) (at b) D) ∷ ask b (beside cutBy (at b) (at a) D) ∷ []
+
 -- What a record of a kind asks of which operand, with D as 01 defines it. `at` gives the record of each number.
 abbrev pub asksOf : (ℕ → Record) → Kind → ℕ → List Ask
 asksOf at Input D = []
@@ -49,9 +71,9 @@ asksOf at (Output a) D = ask a D ∷ []
 asksOf at (Extract a k) D = ask a (up k D) ∷ []
 -- "concat: b has the low W(b) bits of D, and a the rest"
 asksOf at (Concat a b) D = ask a (down (at b .width) D) ∷ ask b (cut (at b .width) D) ∷ []
--- "and, or, xor: both operands have D"
-asksOf at (And a b) D = ask a D ∷ ask b D ∷ []
-asksOf at (Or a b) D = ask a D ∷ ask b D ∷ []
+-- "and, or, xor: both operands have D", and by #104 beside a constant "the other has D and v; of an or, D without v"
+asksOf at (And a b) D = eachBeside both at a b D
+asksOf at (Or a b) D = eachBeside without at a b D
 asksOf at (Xor a b) D = ask a D ∷ ask b D ∷ []
 -- "mux: b and c have D", and by #102 "a selector is cared for only when D of its mux is not 0"
 asksOf at (Mux a b c) D = ask a (ifAny 1 D) ∷ ask b D ∷ ask c D ∷ []

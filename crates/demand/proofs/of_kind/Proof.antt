@@ -7,8 +7,8 @@ use Rattle.bits.specs.Words.{up, down}
 use Rattle.netlist.specs.declared.record.Kind.{Kind}
 use Rattle.netlist.specs.Kinds.{usesOf}
 use Rattle.netlist.specs.Layout.{designOf, widthAt, recordAt}
-use Rattle.signal.specs.Asks.{ifAny, upWithin}
-use Rattle.demand.specs.Held.{Readable}
+use Rattle.signal.specs.Asks.{ifAny, upWithin, beside}
+use Rattle.demand.specs.Held.{Holds, Readable}
 use Rattle.demand.proofs.of_kind.Statement.{statement}
 use Rattle.demand.proofs.of_kind.Tie as tie
 
@@ -21,6 +21,10 @@ both-narrow : {file : List ℕ} {kind : Kind} {v w : ℕ} → Readable file kind
     → (v ≤ 64) × (w ≤ 64)
 unfolding designOf recordAt
 both-narrow r p q = (subst (λ (n : ℕ). n ≤ 64) (sym p) (r .narrow-first), subst (λ (n : ℕ). n ≤ 64) (sym q) (r .narrow-second))
+
+-- both operands, as records that the file holds
+both-held : {file : List ℕ} {kind : Kind} → Readable file kind → Holds file (usesOf kind .a) (usesOf kind .b)
+both-held r = record { first = r .first; second = r .second }
 
 enum-told : tie.Need-enum-told
 enum-told c = c .match .keys1
@@ -67,20 +71,20 @@ of-concat-requires c κs = tt
 enum-known-kind-5 : tie.Need-enum-known-kind-5
 enum-known-kind-5 c = c .match .keys7
 
-two-requires : tie.Need-two-requires
-two-requires c κs = tt
+of-masking-requires : tie.Need-of-masking-requires
+of-masking-requires c κs = both-held (told (c .before .before .before .before .pre) (c .before .kind5 .given .1))
 
 enum-known-kind-6 : tie.Need-enum-known-kind-6
 enum-known-kind-6 c = c .match .keys8
 
-two-requires-2 : tie.Need-two-requires-2
-two-requires-2 c κs = tt
+of-masking-requires-2 : tie.Need-of-masking-requires-2
+of-masking-requires-2 c κs = both-held (told (c .before .before .before .before .pre) (c .before .kind6 .given .1))
 
 enum-known-kind-7 : tie.Need-enum-known-kind-7
 enum-known-kind-7 c = c .match .keys9
 
-two-requires-3 : tie.Need-two-requires-3
-two-requires-3 c κs = tt
+two-requires : tie.Need-two-requires
+two-requires c κs = tt
 
 enum-known-kind-8 : tie.Need-enum-known-kind-8
 enum-known-kind-8 c = c .match .keys10
@@ -204,13 +208,14 @@ unfolding designOf recordAt
 returns-6 c = rw (c .before .before .before .kind4 .given .1, ← c .before .width-at .ensures) (c .of-concat .ensures)
 
 returns-7 : tie.Need-returns-7
-returns-7 c = rw (c .before .before .kind5 .given .1) (c .two .ensures)
+returns-7 c = rw (c .before .before .kind5 .given .1) (c .of-masking .ensures)
 
 returns-8 : tie.Need-returns-8
-returns-8 c = rw (c .before .before .kind6 .given .1) (c .two2 .ensures)
+unfolding beside
+returns-8 c = rw (c .before .before .kind6 .given .1) (c .of-masking2 .ensures)
 
 returns-9 : tie.Need-returns-9
-returns-9 c = rw (c .before .before .kind7 .given .1) (c .two3 .ensures)
+returns-9 c = rw (c .before .before .kind7 .given .1) (c .two .ensures)
 
 returns-10 : tie.Need-returns-10
 returns-10 c =
@@ -279,11 +284,11 @@ of-kind-spec =
     width-at-requires
     of-concat-requires
     enum-known-kind-5
-    two-requires
+    of-masking-requires
     enum-known-kind-6
-    two-requires-2
+    of-masking-requires-2
     enum-known-kind-7
-    two-requires-3
+    two-requires
     enum-known-kind-8
     if-any-requires
     three-requires
