@@ -162,7 +162,7 @@ def status_word():
     """A pitch drive reports a status word of 16 bits. One fixed pattern cuts
     it to the two faults of which an alarm tells. Another cuts it to what the
     display shows, and a third sets two bits that the display wants to be 1.
-    Bits of the word that the patterns kill are not cared for."""
+    Bits of the word that no pattern lets through are not cared for."""
     d = Design()
     word = d.input(16)
     faults = d.gate(AND, word, d.constant(16, 0x8100))

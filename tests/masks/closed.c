@@ -50,8 +50,7 @@ static void ask_for_moved(const uint8_t *file, const struct record *record,
 }
 
 /* Whether operand i of an and or an or is a constant that settles this bit
-   alone: by a 0 in an and, by a 1 in an or. Two constants may lean on each
-   other, so neither does. */
+   alone: by a 0 in an and, by a 1 in an or. Of two constants neither does. */
 static int settles(const uint8_t *file, const struct record *record,
                    unsigned i, unsigned bit)
 {

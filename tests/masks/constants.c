@@ -132,8 +132,8 @@ static const struct worked worked[] = {
       DESIGN(INPUT(8), CONSTANT(8, 0x3c), OF_TWO(AND, 8, 0, 1),
              OF_TWO(OR, 8, 1, 0), OUTPUT(8, 2, 0xff), OUTPUT(8, 3, 0x0f)),
       { 0x3f, 0xff, 0xff, 0x0f, 0xff, 0xff } },
-    /* Bit 5 comes from 4, that from 3, that from 2, which the and kills. */
-    { "a bit that goes round by a register until an and kills it",
+    /* Bit 5 comes from 4, that from 3, that from 2, which the and clears. */
+    { "a bit that goes round by a register until an and clears it",
       DESIGN(REGISTER(8, 3, 0), ROW(LEFT_SHIFT, 8, 0, 0, 0, 1),
              CONSTANT(8, 0xf8), OF_TWO(AND, 8, 1, 2), OUTPUT(8, 0, 0x20)),
       { 0x3c, 0x38, 0x3c, 0x3c, 0xff } }

@@ -70,8 +70,8 @@ or-constant {D} {x} {x′} {v} {v′} h g = agree-by-bits (λ i e. go i e (bit-c
 
 -- Why two constants are not cut, "since each might lean on the other": of two constants 0, each cut by the other's value, no bit would be
 -- asked, and where both differ in the second run, so does the result.
-pub each-might-lean : Agree (both 1 0) 0 1 × (Agree 1 (bitAnd 0 0) (bitAnd 1 1) → ⊥)
-each-might-lean = (record { equal = refl }, λ h. let z = h .equal in omega arith)
+pub both-cut-differ : Agree (both 1 0) 0 1 × (Agree 1 (bitAnd 0 0) (bitAnd 1 1) → ⊥)
+both-cut-differ = (record { equal = refl }, λ h. let z = h .equal in omega arith)
 
 -- ---- an operand beside another
 
