@@ -120,8 +120,8 @@ enum pcn_refusal {
 uint64_t pcn_check(const uint8_t *file, size_t length);
 
 /* Works out the care mask of each signal: a bit outside it can change no
-   output. Where a signal is cut with a constant by an and, or set by an or,
-   its mask has no bit for what the constant alone decides.
+   output. An and or an or with a constant asks its other operand for no bit
+   that the constant alone decides.
 
    Refused as pcn_check refuses the file, and then by 11. Accepted: the
    answer holds the tally, and all bytes of the mask list are written. The

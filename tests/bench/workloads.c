@@ -21,11 +21,11 @@ static memory own[MOST_FILES], shared;
    at the end. */
 static const struct style clocked_style = {
     { 1, 1, 2, 1, 1, 1, 1, 1, 1, 1, 1, 1, 0, 1, 1, 1, 1, 1, 1 }, 4, 2, 0,
-    KEEP_MOSTLY
+    KEEP_MOSTLY, 0
 };
 static const struct style clocked_with_mul_style = {
     { 1, 1, 2, 1, 1, 1, 1, 1, 1, 1, 1, 1, 1, 1, 1, 1, 1, 1, 1 }, 4, 2, 0,
-    KEEP_MOSTLY
+    KEEP_MOSTLY, 0
 };
 
 /* A list that is only written is the same memory for all designs; one that is

@@ -25,25 +25,25 @@ struct widths {
 const struct style styles[STYLES + 1] = {
     /* input, constant, register, output, extract, concat, and, or, xor, mux,
        add, sub, mul, equal, below, left shift, right shift, arithmetic right
-       shift, signed below; opening, closing, recent, keep */
+       shift, signed below; opening, closing, recent, keep, cut */
     { { 2, 1, 6, 1, 2, 2, 1, 1, 1, 2, 1, 1, 1, 1, 1, 1, 1, 1, 1 }, 0, 0, 0,
-      KEEP_MOSTLY },
+      KEEP_MOSTLY, 0 },
     { { 1, 1, 0, 0, 3, 3, 2, 2, 2, 3, 2, 2, 1, 1, 1, 1, 1, 1, 1 }, 12, 8, 128,
-      KEEP_MOSTLY },
+      KEEP_MOSTLY, 0 },
     { { 1, 0, 4, 0, 5, 5, 0, 0, 0, 0, 0, 0, 0, 0, 0, 1, 1, 2, 0 }, 4, 1, 0,
-      KEEP_ANY },
+      KEEP_ANY, 0 },
     { { 1, 1, 3, 1, 3, 1, 0, 0, 1, 0, 4, 4, 4, 0, 0, 1, 1, 1, 0 }, 2, 1, 0,
-      KEEP_HOLES },
+      KEEP_HOLES, 0 },
     { { 1, 1, 2, 1, 2, 3, 0, 0, 1, 6, 1, 0, 0, 2, 2, 0, 0, 1, 2 }, 4, 1, 0,
-      KEEP_ANY },
+      KEEP_ANY, 0 },
     { { 1, 1, 1, 0, 2, 2, 2, 2, 2, 2, 2, 2, 2, 1, 1, 1, 1, 1, 1 }, 1, 1, 4,
-      KEEP_MOSTLY },
+      KEEP_MOSTLY, 0 },
     { { 4, 5, 1, 2, 1, 1, 6, 6, 1, 1, 1, 0, 0, 1, 0, 1, 1, 0, 0 }, 2, 10, 12,
-      KEEP_MOSTLY },
+      KEEP_MOSTLY, 1 },
     { { 1, 1, 3, 0, 2, 2, 1, 1, 1, 4, 1, 1, 1, 1, 1, 1, 1, 1, 1 }, 0, 1, 0,
-      KEEP_ANY },
+      KEEP_ANY, 0 },
     { { 1, 1, 1, 1, 1, 1, 1, 1, 1, 1, 1, 1, 1, 1, 1, 1, 1, 1, 1 }, 0, 0, 0,
-      KEEP_ANY }
+      KEEP_ANY, 0 }
 };
 
 uint32_t design_count(struct rng *rng, uint32_t least)
@@ -319,8 +319,7 @@ static void draw_keeps(struct rng *rng, struct netlist *net,
 void design_styled(struct rng *rng, struct netlist *net, uint32_t count,
                    const struct style *style)
 {
-    int is_cut = style == &styles[STYLE_CUT];
-    struct widths widths = pick_widths(rng, is_cut);
+    struct widths widths = pick_widths(rng, style->cut);
 
     readable.recent = style->recent;
     memset(readable.count, 0, sizeof readable.count);
@@ -332,7 +331,7 @@ void design_styled(struct rng *rng, struct netlist *net, uint32_t count,
     }
     readable.recent = 0;
     connect_registers(rng, net);
-    if (is_cut)
+    if (style->cut)
         connect_constants(rng, net);
     draw_keeps(rng, net, style->keep);
 }

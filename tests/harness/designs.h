@@ -24,6 +24,7 @@ struct style {
     uint8_t closing; /* 64ths of the records, outputs at the end, rounded up */
     uint32_t recent; /* operands among the last so many; 0 for any */
     enum keep_style keep;
+    int cut; /* few widths, and most ands and ors read a constant */
 };
 
 /* A count of records from `least` to the limit; small ones are likelier. */

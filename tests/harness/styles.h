@@ -14,7 +14,7 @@ enum {
     STYLE_ARITHMETIC,
     STYLE_CHOICES,
     STYLE_DEEP,
-    STYLE_CUT, /* and most ands and ors then get a constant to read */
+    STYLE_CUT,
     STYLE_UNREAD,
     STYLES
 };
