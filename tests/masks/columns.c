@@ -10,7 +10,7 @@
 #include "parts.h"
 #include "smallest.h"
 
-enum { WIDTH = 3, RECORDS = 5, MOST_WORDS = 7, COLUMNS = 1 << MOST_WORDS };
+enum { WIDTH = 3, MOST_WORDS = 7, COLUMNS = 1 << MOST_WORDS };
 
 /* A design has sources, which are inputs and constants, then ands and ors, and
    then an output of the last record, all of one width. Its words are the k of
@@ -78,7 +78,7 @@ static unsigned bits_at(unsigned i, const unsigned *of)
 static void try_columns(const unsigned *columns, const uint8_t *smallest)
 {
     unsigned families[WIDTH], i;
-    uint8_t list[8 * RECORDS];
+    uint8_t list[8 * MOST_RECORDS];
     int same = 1;
 
     for (i = 0; i < WIDTH; i++)
@@ -149,7 +149,7 @@ void masks_columns(void)
 
     tried = 0;
     test_begin("all families: width 3, 3 to 5 records, every word, by bits");
-    for (count = 3; count <= RECORDS; count++)
+    for (count = 3; count <= MOST_RECORDS; count++)
         for (sources = 1; sources + 2 <= count; sources++) {
             netlist_clear(&net);
             try_shapes(sources, count - 1);

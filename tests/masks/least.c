@@ -12,7 +12,7 @@
 #include "parts.h"
 #include "smallest.h"
 
-enum { RECORDS = 5, CHOICES = 32, SEED = 30 };
+enum { CHOICES = 32, SEED = 30 };
 
 /* What is gone through. A design has sources, which are inputs, constants and
    registers, then ands and ors, at least one, and then an output; counts are
@@ -120,7 +120,7 @@ static void make_design(uint32_t sources, uint32_t gates)
 static void try_design(void)
 {
     static struct file file;
-    uint8_t list[8 * RECORDS];
+    uint8_t list[8 * MOST_RECORDS];
     uint64_t least, lost = 0;
     uint32_t i;
 

@@ -7,8 +7,6 @@
 
 #include "../harness/report.h"
 
-enum { RECORDS = 5 };
-
 static unsigned width;
 static uint64_t full;
 
@@ -31,7 +29,7 @@ static uint64_t gate_asks(const struct netlist *net,
 static struct rule {
     uint64_t always, keep, asks[2];
     uint32_t operand[2];
-} rules[RECORDS];
+} rules[MOST_RECORDS];
 
 static void write_rules(const struct netlist *net)
 {

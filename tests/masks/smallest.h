@@ -7,6 +7,9 @@
 
 #include "../harness/netlist.h"
 
+/* The most records of a design. */
+enum { MOST_RECORDS = 5 };
+
 /* What all families have in common that meet the care rules; the test fails if
    it does not meet them itself. A family is one number, in which record 0 has
    the lowest bits. */

@@ -1,7 +1,7 @@
 -- Masking with a constant: v is the value of a constant, and what an operand is asked beside another grows with D, stays within it and is
 -- enough. Assumes nothing.
 use mathlib.Core.Path.{_≡_, refl, sym, ap, subst, subst₂}
-use mathlib.Core.Bool.{Bool, true, false, cond, not, _&&_}
+use mathlib.Core.Bool.{Bool, true, false, cond}
 use mathlib.Core.Logic.{_⊎_, inl, inr}
 use Prim.Native.Nat.{ℕ}
 use native.Mathlib.Omega.{arith}
@@ -14,7 +14,7 @@ use Rattle.netlist.specs.Kinds.{usesOf, isConstant}
 use Rattle.netlist.specs.declared.record.Kind.{Kind}
 use Rattle.netlist.specs.declared.record.Record.{Record}
 use Rattle.netlist.proofs.KindLaws.{is-constant}
-use Rattle.signal.specs.Asks.{constantValue, both, isAlone, beside}
+use Rattle.signal.specs.Asks.{constantValue, both, otherAlone, beside}
 use Rattle.signal.specs.Results.{resultOf, resultAt}
 
 -- A record that is a constant has its value: premise of what is enough beside it.
@@ -110,7 +110,7 @@ module _ {op cutBy : ℕ → ℕ → ℕ} (cutting : Cutting op cutBy) (x y : Re
   beside-enough {D} {p} {p′} {q} {q′} = go (isConstant (x .kind)) (isConstant (y .kind))
     where
       go : (s t : Bool) → (s ≡ true → p ≡ constantValue x) → (t ≡ true → q ≡ constantValue y)
-          → Agree (cond (t && not s) (cutBy D (constantValue y)) D) p p′ → Agree (cond (s && not t) (cutBy D (constantValue x)) D) q q′
+          → Agree (cond (otherAlone s t) (cutBy D (constantValue y)) D) p p′ → Agree (cond (otherAlone t s) (cutBy D (constantValue x)) D) q q′
           → Agree D (op p q) (op p′ q′)
       go true true first second h g = cutting .plain h g
       go false false first second h g = cutting .plain h g
@@ -121,7 +121,7 @@ module _ {op cutBy : ℕ → ℕ → ℕ} (cutting : Cutting op cutBy) (x y : Re
 
   pub beside-grow : {D E : ℕ} → Within D E → Within (beside cutBy x y D) (beside cutBy x y E)
   unfolding beside
-  beside-grow {D} {E} h = go (isAlone x y)
+  beside-grow {D} {E} h = go (otherAlone (isConstant (x .kind)) (isConstant (y .kind)))
     where
       go : (t : Bool) → Within (cond t (cutBy D (constantValue y)) D) (cond t (cutBy E (constantValue y)) E)
       go true = cutting .grow (constantValue y) h
@@ -129,7 +129,7 @@ module _ {op cutBy : ℕ → ℕ → ℕ} (cutting : Cutting op cutBy) (x y : Re
 
   pub beside-less : (D : ℕ) → Within (beside cutBy x y D) D
   unfolding beside
-  beside-less D = go (isAlone x y)
+  beside-less D = go (otherAlone (isConstant (x .kind)) (isConstant (y .kind)))
     where
       go : (t : Bool) → Within (cond t (cutBy D (constantValue y)) D) D
       go true = cutting .less D (constantValue y)

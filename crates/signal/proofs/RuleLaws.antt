@@ -49,7 +49,7 @@ module _ (at : ℕ → Record) (M : ℕ → ℕ) {D E : ℕ} (h : Within D E) (l
   up-in w k = cut-mono w (up-mono k h)
 
   each : {op cutBy : ℕ → ℕ → ℕ} → Cutting op cutBy → (a b : ℕ) → Granted (eachBeside cutBy at a b E) M → Granted (eachBeside cutBy at a b D) M
-  each c a b g = (within-trans (beside-grow c (at a) (at b) h) (g .0), (within-trans (beside-grow c (at b) (at a) h) (g .1 .0), tt))
+  each c a b g = (within-trans (beside-grow c _ _ h) (g .0), (within-trans (beside-grow c _ _ h) (g .1 .0), tt))
 
   pub asks-grow : (kind : Kind) → Granted (asksOf at kind E) M → Granted (asksOf at kind D) M
   asks-grow Input g = tt
@@ -84,9 +84,9 @@ module _ (d : Design) (w D : ℕ) (h : D < 2 ^ w) where
   same-width : (j : ℕ) → d .at j .width ≡ w → Within D (lowMask (d .at j .width))
   same-width j e = within-low (d .at j .width) (subst (λ (v : ℕ). D < 2 ^ v) (sym e) h)
 
-  beside-width : {op cutBy : ℕ → ℕ → ℕ} → Cutting op cutBy → (j l : ℕ) → d .at j .width ≡ w
-      → Within (beside cutBy (d .at j) (d .at l) D) (lowMask (d .at j .width))
-  beside-width c j l e = within-trans (beside-less c (d .at j) (d .at l) D) (same-width j e)
+  beside-width : {op cutBy : ℕ → ℕ → ℕ} → Cutting op cutBy → (x y : Record) (j : ℕ) → d .at j .width ≡ w
+      → Within (beside cutBy x y D) (lowMask (d .at j .width))
+  beside-width c x y j e = within-trans (beside-less c x y D) (same-width j e)
 
   low-bits : (j : ℕ) → d .at j .width ≡ w → Within (upToHighest D) (lowMask (d .at j .width))
   low-bits j e = low-mono (let l = length-le w h in omega arith)
@@ -110,8 +110,8 @@ module _ (d : Design) (w D : ℕ) (h : D < 2 ^ w) where
     within-low (d .at a .width) (down-lt (d .at a .width) _ (lt-of-lt-of-le h (pow-mono (omega arith)))),
     (o .b, within-low (d .at b .width) (lt-of-lt-of-le (mod-lt D (pow-pos _)) (pow-mono (omega arith))), tt),
   )
-  asks-fit (And a b) o n r = (o .a, beside-width cutting-and a b (r .0), (o .b, beside-width cutting-and b a (r .1 .0), tt))
-  asks-fit (Or a b) o n r = (o .a, beside-width cutting-or a b (r .0), (o .b, beside-width cutting-or b a (r .1 .0), tt))
+  asks-fit (And a b) o n r = (o .a, beside-width cutting-and _ _ a (r .0), (o .b, beside-width cutting-and _ _ b (r .1 .0), tt))
+  asks-fit (Or a b) o n r = (o .a, beside-width cutting-or _ _ a (r .0), (o .b, beside-width cutting-or _ _ b (r .1 .0), tt))
   asks-fit (Xor a b) o n r = (o .a, same-width a (r .0), (o .b, same-width b (r .1 .0), tt))
   asks-fit (Mux a b c) o n r = (
     o .a,

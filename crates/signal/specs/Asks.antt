@@ -46,14 +46,14 @@ constantValue r = bitAnd (usesOf (r .kind) .k) (r .keep)
 abbrev pub both : ℕ → ℕ → ℕ
 both D v = bitAnd v D
 
--- "where exactly one operand .. is a constant": y, and not x.
-abbrev pub isAlone : Record → Record → Bool
-isAlone x y = isConstant (y .kind) && not (isConstant (x .kind))
+-- "where exactly one operand .. is a constant": the other one is, and this one is not.
+abbrev pub otherAlone : Bool → Bool → Bool
+otherAlone this other = other && not this
 
 -- What an operand x is asked beside the other operand y: beside a constant it has D cut by v. "The constant itself has D. If both operands are
 -- constants, the old rule holds", and so it does if none is: x has D.
 unfoldable pub beside : (ℕ → ℕ → ℕ) → Record → Record → ℕ → ℕ
-beside cutBy x y D = cond (isAlone x y) (cutBy D (constantValue y)) D
+beside cutBy x y D = cond (otherAlone (isConstant (x .kind)) (isConstant (y .kind))) (cutBy D (constantValue y)) D
 
 -- What the operands a and b are asked, each beside the other.
 abbrev pub eachBeside : (ℕ → ℕ → ℕ) → (ℕ → Record) → ℕ → ℕ → ℕ → List Ask
