@@ -37,7 +37,8 @@ extern "C" {
 
    They are tried in this order: first 1 to 5 for the whole file, then 6 to
    10 for record 0, then 6 to 10 for record 1, and so on, then 11, then 12 for
-   each record in turn, and at last 13. The first that applies is the answer.
+   each record in turn, then 13, and at last 14 for each record in turn. The
+   first that applies is the answer.
 
     1  The file is shorter than its header of 8 bytes.
     2  The file does not begin with the letters PCN, or byte 5 is not 0.
@@ -60,6 +61,9 @@ extern "C" {
    12  Before a cycle, the word at the record, an input or a register, has a
        bit beyond its width.
    13  The destination has not as many bytes as the file.
+   14  The mask at the record, in a list that the caller made, has a bit
+       beyond the width, or lacks one that is called for: an output's mask
+       lacks one of its bits, or a record asks for a bit that is not there.
 
    A register may read a record that has not been looked at yet. Refusals 8
    and 9 then go by that record's kind byte and width byte as they stand. */
@@ -77,7 +81,8 @@ enum pcn_refusal {
     PCN_UNUSED_BIT = 10,
     PCN_BAD_LIST = 11,
     PCN_WIDE_WORD = 12,
-    PCN_BAD_DESTINATION = 13
+    PCN_BAD_DESTINATION = 13,
+    PCN_BAD_MASK = 14
 };
 
 /* Lists.
@@ -140,6 +145,27 @@ uint64_t pcn_masks(const uint8_t *file, size_t length, uint8_t *masks,
 uint64_t pcn_trim(const uint8_t *file, size_t length, uint8_t *masks,
                   size_t masks_length, uint8_t *destination,
                   size_t destination_length);
+
+/* Writes a file in which the bits outside the masks of a given list are
+   cleared. So trimming comes in two steps: pcn_masks shows the masks, bits
+   that are to be kept are added to them, and pcn_trim_by writes.
+
+   The list is a word for each record and is only read. It may come from
+   anywhere and need not be the smallest. It is accepted exactly if no mask
+   has a bit beyond the width of its record, each output's mask has all its
+   bits, and each record finds in its operands' masks all that it asks for
+   with its own mask in the list.
+
+   Refused as pcn_check refuses the file, then by 11, by 13, and by 14 with the
+   lowest record whose mask lacks a bit that is called for or has one beyond
+   its width. Accepted: the answer holds the tally of the list, and all bytes
+   of the destination are written. They are the bytes of the file but for
+   bytes 16 to 23 of each record: the new keep word has the bits that are both
+   in the old one and in the mask of the list. pcn_check accepts the file in
+   the destination. With the masks of pcn_masks, it is the file of pcn_trim. */
+uint64_t pcn_trim_by(const uint8_t *file, size_t length, const uint64_t *masks,
+                     size_t masks_words, uint8_t *destination,
+                     size_t destination_length);
 
 /* Writes the reset state of each register into a board list, and 0 at every
    other record.
