@@ -1,5 +1,5 @@
--- The claim about two whole runs: for any masks that are closed above the outputs, and so for the masks of the design.
--- Assumes nothing.
+-- The claim about two whole runs: for any masks that are closed above the outputs, and so for the masks of the design and for a list that
+-- trim_by accepts. Assumes nothing.
 use mathlib.Core.Path.{_≡_, refl, sym, ap, subst, _∙_}
 use mathlib.Core.Bool.{cond}
 use mathlib.Core.List.{List, [], _∷_}
@@ -23,7 +23,8 @@ use Rattle.care.specs.Least.{Closed, outputSeed, maskAt, masksOf}
 use Rattle.care.proofs.LeastMasks.{masks-least}
 use Rattle.clock.specs.Values.{unchanged, valuesOf, nextOf}
 use Rattle.clock.proofs.Promises.{start-left, values-left, next-left, cycle-sound, board-length}
-use Rattle.agreement.specs.Claim.{fileOf, RunsAgree, TwoRuns}
+use Rattle.trim.proofs.PromisesBy.{accepted-only-if}
+use Rattle.agreement.specs.Claim.{fileOf, RunsAgree, TwoRuns, GivenListRuns}
 use Rattle.agreement.specs.Runs.{runOf, Cycle, Step, started, cycled, withInputs, kindsOf, cyclesOf, cycleAt}
 use Rattle.agreement.specs.Scrambled.{plain, changeIn}
 use Rattle.agreement.proofs.Between.{Tied, tied-first, tied-start, tied-next, held-agree}
@@ -143,3 +144,9 @@ closed-runs-agree file masks n e closed which manner board board′ calls calls�
 -- demand 3: the masks of the design are closed
 pub two-runs : TwoRuns
 two-runs file n e = closed-runs-agree file (masksOf (designOf file)) n e (masks-least (designOf file) (accepted file n e .sound) .closed)
+
+-- #105: so is a list that trim_by accepts
+pub given-list-runs : GivenListRuns
+given-list-runs file list destination tally e =
+    let a = accepted-only-if file list destination tally e in
+    closed-runs-agree file list (length list) (a .records) (a .closed)

@@ -1,4 +1,4 @@
--- The claim about two whole runs, as 01 states it under "Two runs".
+-- The claim about two whole runs, as 01 states it under "Two runs", for the masks of a design and for a list that trim_by accepts.
 -- Assumes nothing.
 use mathlib.Core.Path.{_≡_}
 use mathlib.Core.List.{List}
@@ -11,6 +11,9 @@ use Rattle.netlist.specs.declared.record.Role.the-variants.{Input, Register, Ou
 use Rattle.rules.specs.Check.{checkOf}
 use Rattle.rules.specs.declared.Checked.the-variants.{Accepted}
 use Rattle.care.specs.Least.{maskAt, masksOf}
+use Rattle.care.specs.declared.Tally.{Tally}
+use Rattle.care.specs.declared.Tallied.the-variants.{Done}
+use Rattle.trim.specs.CallBy.{trimByCall}
 use Rattle.trim.specs.Trimmed.{trimmedBy}
 use Rattle.agreement.specs.Runs.{Call, Step, runOf, kindsOf, cyclesOf, cycleAt}
 use Rattle.agreement.specs.Scrambled.{Manner, plain, changeIn}
@@ -56,3 +59,8 @@ RunsAgree file masks =
 -- Demand 3: "An accepted design is a file that check accepts", and the masks are its own.
 abbrev pub TwoRuns : Type 0
 TwoRuns = (file : List ℕ) (n : ℕ) → checkOf file ≡ Accepted n → RunsAgree file (masksOf (designOf file))
+
+-- #105: "For two runs, the accepted list then plays the part of the masks, and this file that of the trimmed one."
+abbrev pub GivenListRuns : Type 0
+GivenListRuns =
+    (file list destination : List ℕ) (tally : Tally) → trimByCall file list destination .answer ≡ Done tally → RunsAgree file list

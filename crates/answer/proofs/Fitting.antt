@@ -1,30 +1,35 @@
 -- The answer of each operation fits into its number.
 -- Assumes nothing.
-use mathlib.Core.Path.{_≡_, refl}
+use mathlib.Core.Path.{_≡_, refl, _∙_}
 use mathlib.Core.Bool.{Bool, true, false, cond}
+use mathlib.Core.Logic.{_⊎_, inl, inr}
 use mathlib.Core.List.{List}
-use Prim.Native.Nat.{ℕ, zero, suc, _+_, _^_, _≤_, _<_}
+use Prim.Native.Nat.{ℕ, _^_, _<_}
 use native.Mathlib.Omega.{arith}
 use lib.Dec.{eqb, lit<}
 use lib.ListN.{length}
-use Rattle.netlist.specs.Limits.{maxCount}
-use Rattle.netlist.specs.Layout.{Design, designOf}
+use Rattle.netlist.specs.Layout.{designOf}
 use Rattle.netlist.specs.declared.refusal.Refusal.{Refusal}
-use Rattle.netlist.specs.declared.refusal.Refusal.the-variants.{BadList, WideWord}
+use Rattle.netlist.specs.declared.refusal.Refusal.the-variants.{BadList, WideWord, BadMask}
+use Rattle.netlist.proofs.LowestLaws.{lowest-cases}
 use Rattle.rules.specs.Check.{checkOf}
 use Rattle.rules.specs.declared.Checked.{Checked}
 use Rattle.rules.specs.declared.Checked.the-variants.{Accepted, Refused as refused}
 use Rattle.rules.proofs.Acceptance.{accepted, refused-low}
-use Rattle.care.specs.Call.{refuse, fillMasks, callAfter, masksCall}
-use Rattle.care.specs.Least.{masksOf}
+use Rattle.care.specs.Call.{tallyOf, refuse, fillMasks, callAfter, masksCall}
+use Rattle.care.specs.Called.{isFaulty}
+use Rattle.care.specs.Least.{outputSeed, masksOf}
 use Rattle.care.specs.declared.Tallied.{Tallied}
 use Rattle.care.specs.declared.Tallied.the-variants.{Done, Refused}
+use Rattle.care.proofs.CalledLaws.{clear-fits}
 use Rattle.care.proofs.LeastMasks.{masks-fit}
 use Rattle.care.proofs.TallyLaws.{tally-low}
-use Rattle.clock.specs.Call.{answerAfter, bothHave, isWide, wideFrom, wordsAnswer, startCall, cycleWith, cycleCall}
+use Rattle.clock.specs.Call.{answerAfter, bothHave, isWide, wordsAnswer, startCall, cycleWith, cycleCall}
 use Rattle.clock.specs.declared.Clocked.{Clocked}
 use Rattle.clock.specs.declared.Clocked.the-variants.{Done as clocked, Refused as clockRefused}
 use Rattle.trim.specs.Call.{trimAnswer, trimAfter, trimCall}
+use Rattle.trim.specs.CallBy.{listAnswer, trimByCall}
+use Rattle.trim.proofs.CallByLaws.{by-ends}
 use Rattle.answer.specs.Fits.{CheckFits, TalliedFits, ClockedFits}
 
 record-low : (file : List ℕ) (r : Refusal) (i : ℕ) → checkOf file ≡ refused r i → i < 2 ^ 32
@@ -39,7 +44,7 @@ check-case file (refused r i) e = record-low file r i e
 pub check-fits : (file : List ℕ) → CheckFits (checkOf file)
 check-fits file = check-case file (checkOf file) refl
 
--- ---- masks and trim
+-- ---- masks, trim and trim_by
 
 module _ (file list : List ℕ) where
   list-case : (n : ℕ) → checkOf file ≡ Accepted n → (b : Bool) → TalliedFits (cond b (fillMasks (designOf file)) (refuse BadList 0 list) .answer)
@@ -65,6 +70,22 @@ pub trim-fits : (file list destination : List ℕ) → TalliedFits (trimCall fil
 unfolding trimAfter
 trim-fits file list destination = destination-case _ _ (masks-fits file list)
 
+-- a list that is refused names a record of the file, and one that is accepted fits
+pub trim-by-fits : (file list destination : List ℕ) → TalliedFits (trimByCall file list destination .answer)
+unfolding listAnswer designOf
+trim-by-fits file list destination =
+    let d = designOf file in
+    by-ends file list destination (λ c. TalliedFits (c .answer)) (λ r i. named r i)
+    (λ n e h g.
+    let a = accepted file n e in
+    lowest-cases (isFaulty d (outputSeed d) list) (Refused BadMask) (Done (tallyOf d list)) (d .count) TalliedFits
+    (λ i l p c. let f = a .sound .few in omega arith)
+    (λ c. tally-low d (a .sound) list (clear-fits d (a .sound) (outputSeed d) list c (h ∙ a .count))))
+  where
+    named : (r : Refusal) (i : ℕ) → (i ≡ 0) ⊎ (checkOf file ≡ refused r i) → i < 2 ^ 32
+    named r i (inl e) = omega arith
+    named r i (inr e) = record-low file r i e
+
 -- ---- start and cycle
 
 module _ (file : List ℕ) (fit : ℕ → Bool) (rest : Clocked) (h : (n : ℕ) → checkOf file ≡ Accepted n → ClockedFits rest) where
@@ -81,19 +102,10 @@ pub start-fits : (file board : List ℕ) → ClockedFits (startCall file board .
 unfolding startCall
 start-fits file board = clock-case file (λ n. eqb (length board) n) clocked (λ n e. tt) (checkOf file) refl
 
--- a word that is too wide names a record of the file
-wide-choice : (b : Bool) {i : ℕ} (rest : Clocked) → i < 2 ^ 32 → ClockedFits rest → ClockedFits (cond b (clockRefused WideWord i) rest)
-wide-choice true rest h l = h
-wide-choice false rest h l = l
-
-wide-record : (d : Design) (board : List ℕ) (left i : ℕ) → i + left ≤ maxCount → ClockedFits (wideFrom d board left i)
-unfolding wideFrom
-wide-record d board zero i h = tt
-wide-record d board (suc left) i h = wide-choice (isWide d board i) _ (omega arith) (wide-record d board left (suc i) (omega arith))
-
 pub cycle-fits : (file board next : List ℕ) → ClockedFits (cycleCall file board next .answer)
 unfolding cycleWith wordsAnswer
 cycle-fits file board next =
     let d = designOf file in
     clock-case file (bothHave (length board) (length next)) (wordsAnswer d board)
-    (λ n e. wide-record d board (d .count) 0 (let f = accepted file n e .sound .few in omega arith)) (checkOf file) refl
+    (λ n e. lowest-cases (isWide d board) (clockRefused WideWord) clocked (d .count) ClockedFits
+    (λ i h p c. let f = accepted file n e .sound .few in omega arith) (λ c. tt)) (checkOf file) refl

@@ -1,12 +1,15 @@
 -- Masks ordered by their ones: Within is a partial order with joins, meets and differences, and a low mask bounds a width.
 -- Assumes nothing.
 use mathlib.Core.Path.{_≡_, refl, sym, ap, _∙_, subst}
+use mathlib.Core.Bool.{false, not}
 use Prim.Native.Nat.{ℕ, _≤_, _<_, _^_}
 use native.Mathlib.Nat.{le-trans, le-of-eq, le-antisymm, lt-of-le-of-lt, lt-of-lt-of-le, le-of-suc-le-suc, mod-eq-of-lt, min-le-left, min-le-right, min-eq-left, le-min, le-max-left, max-le}
 use native.Mathlib.Omega.{arith}
 use lib.Bits.{bitAnd, bitOr, and-le-r, and-comm, or-comm, and-mask, and-self}
+use lib.Dec.{eqb}
 use lib.Pow.{pow-mono, ones-lt, lt-of-le-ones}
-use Rattle.bits.specs.Masks.{bit, Within, without}
+use borrow.Author.Tests.{eq-eqb, eqb-true, not-false}
+use Rattle.bits.specs.Masks.{bit, Within, exceeds, without}
 use Rattle.bits.specs.Words.{lowMask}
 use Rattle.bits.proofs.Digits.{bit-lt, bits-ext, bit-and, bit-or, bit-without}
 
@@ -42,6 +45,13 @@ within-antisym h g = le-antisymm (within-le h) (within-le g)
 
 pub within-zero : (a : ℕ) → Within 0 a
 within-zero a = record { meet = refl }
+
+-- a mask has no one outside another just where it lies within it
+pub within-not-exceeds : {a b : ℕ} → Within a b → exceeds a b ≡ false
+within-not-exceeds {a} {b} h = ap not (eq-eqb (bitAnd a b) a (h .meet))
+
+pub not-exceeds-within : (a b : ℕ) → exceeds a b ≡ false → Within a b
+not-exceeds-within a b e = record { meet = eqb-true (bitAnd a b) a (not-false (eqb (bitAnd a b) a) e) }
 
 -- ---- joins
 

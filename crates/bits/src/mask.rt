@@ -2,6 +2,7 @@
 // A caller of low_mask keeps n at 64 or below; the others ask nothing.
 ghost use mathlib.Core.Path.{_≡_};
 ghost use Prim.Native.Nat.{_≤_};
+ghost use Rattle.bits.specs.Masks.{exceeds};
 ghost use Rattle.bits.specs.Words.{lowMask, cut, countOnes, bitLength};
 
 // The mask of the n lowest bits.
@@ -21,6 +22,14 @@ pub fn cut_to(x: u64, w: u64) -> u64
     ensures { λ r. ⌜ r ≡ cut w x ⌝ }
 {
     if w < 64 { x & low_mask(w) } else { x }
+}
+
+// Whether a has a bit that b has not.
+pub fn exceeds(a: u64, b: u64) -> bool
+    ensures { λ r. ⌜ r ≡ exceeds a b ⌝ }
+{
+    let both = a & b;
+    both != a
 }
 
 // How many bits of x are one.

@@ -22,7 +22,7 @@ use Rattle.rules.proofs.SoundLaws.{word-64}
 use Rattle.signal.specs.Asks.{asked, Granted}
 use Rattle.care.specs.Least.{Closed, Least, maskAt, outputSeed, roundTo, widthSum, onesSum, settle, leastAbove, masksOf, Fits}
 use Rattle.care.proofs.Families.{Inside, inside-refl, inside-trans, granted-more, below-or-not, allBits, all-closed}
-use Rattle.care.proofs.Rounds.{length-round, round-above, round-granted, round-least}
+use Rattle.care.proofs.Rounds.{closed-grants, length-round, round-above, round-granted, round-least}
 
 -- a list of n masks lies within a family where each of its n words does
 pub list-inside : (n : ℕ) (masks : List ℕ) (F : ℕ → ℕ) → length masks ≡ n → ((i : ℕ) → i < n → Within (maskAt masks i) (F i)) → Inside (maskAt masks) F
@@ -64,26 +64,27 @@ module _ (d : Design) (s : Sound d) where
 
   module _ (masks : List ℕ) (e : length masks ≡ d .count) (narrow : Inside (maskAt masks) (allBits d)) where
     whole : List ℕ
-    whole = roundTo d masks (d .count)
+    whole = roundTo d (maskAt masks) masks (d .count)
 
     whole-narrow : Inside (maskAt whole) (allBits d)
     unfolding whole
     whole-narrow =
-        round-least d s masks e (all-closed d s (maskAt masks) (λ i h. narrow .each i)) narrow (d .count) (omega arith)
+        round-least d s (maskAt masks) masks e (allBits d) narrow
+        (closed-grants d s (all-closed d s (maskAt masks) (λ i h. narrow .each i)) masks narrow) (d .count) (omega arith)
 
     -- a round that adds no bit grants all that is asked
     stays : onesSum d whole ≤ onesSum d masks → Good d masks masks
     unfolding whole
     stays l =
-        let same = no-more masks whole (round-above d s masks e (d .count) (omega arith)) whole-narrow l in
+        let same = no-more masks whole (round-above d s (maskAt masks) masks e (d .count) (omega arith)) whole-narrow l in
         record {
           size = e;
           above = inside-refl (maskAt masks);
           granted = λ i h.
               granted-more
-              (list-inside (d .count) whole (maskAt masks) (length-round d s masks e (d .count) (omega arith))
+              (list-inside (d .count) whole (maskAt masks) (length-round d s (maskAt masks) masks e (d .count) (omega arith))
               (λ j k. subst (λ (m : ℕ). Within m (maskAt masks j)) (same j k) (within-refl (maskAt masks j))))
-              (asked (d .at) i (maskAt masks i)) (round-granted d s masks e (d .count) (omega arith) i h);
+              (asked (d .at) i (maskAt masks i)) (round-granted d s (maskAt masks) masks e (d .count) (omega arith) i h);
           least = λ seed F c i. i;
         }
 
@@ -92,9 +93,10 @@ module _ (d : Design) (s : Sound d) where
     goes-on result g =
         record {
           size = g .size;
-          above = inside-trans (round-above d s masks e (d .count) (omega arith)) (g .above);
+          above = inside-trans (round-above d s (maskAt masks) masks e (d .count) (omega arith)) (g .above);
           granted = g .granted;
-          least = λ seed F c i. g .least seed F c (round-least d s masks e c i (d .count) (omega arith));
+          least = λ seed F c i.
+              g .least seed F c (round-least d s (maskAt masks) masks e F i (closed-grants d s c masks i) (d .count) (omega arith));
         }
 
   settle-good : (turns : ℕ) (masks : List ℕ) → length masks ≡ d .count → Inside (maskAt masks) (allBits d) → widthSum d ≤ onesSum d masks + turns
@@ -103,7 +105,7 @@ module _ (d : Design) (s : Sound d) where
   settle-good zero masks e narrow l =
       stays masks e narrow (let a = ones-le (whole masks e narrow) (whole-narrow masks e narrow) in omega arith)
   settle-good (suc turns) masks e narrow l =
-      go (eqb (onesSum d (whole masks e narrow)) (onesSum d masks)) refl (settle-good turns (whole masks e narrow) (length-round d s masks e (d .count) (omega arith)) (whole-narrow masks e narrow))
+      go (eqb (onesSum d (whole masks e narrow)) (onesSum d masks)) refl (settle-good turns (whole masks e narrow) (length-round d s (maskAt masks) masks e (d .count) (omega arith)) (whole-narrow masks e narrow))
     where
       go : (b : Bool) → eqb (onesSum d (whole masks e narrow)) (onesSum d masks) ≡ b
           → (widthSum d ≤ onesSum d (whole masks e narrow) + turns → Good d (whole masks e narrow) (settle d turns (whole masks e narrow)))
@@ -113,7 +115,7 @@ module _ (d : Design) (s : Sound d) where
         where
           more : eqb (onesSum d (whole masks e narrow)) (onesSum d masks) ≡ false → widthSum d ≤ onesSum d (whole masks e narrow) + turns
           more q = let n = eqb-false (onesSum d (whole masks e narrow)) (onesSum d masks) q in
-              let g = ones-grow masks (whole masks e narrow) (round-above d s masks e (d .count) (omega arith)) in omega arith
+              let g = ones-grow masks (whole masks e narrow) (round-above d s (maskAt masks) masks e (d .count) (omega arith)) in omega arith
 
   -- the list that settling gives, as a least family above the masks it began with
   module _ (masks : List ℕ) (f : Fits d masks) where

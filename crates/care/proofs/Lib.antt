@@ -3,6 +3,7 @@
 pub mod Families
 pub mod Rounds
 pub mod LeastMasks
+pub mod CalledLaws
 pub mod TallyLaws
 pub mod CallLaws
 pub mod Promises

@@ -25,38 +25,38 @@ module _ (d : Design) (s : Sound d) where
   pub closed-grants : {seed F : ℕ → ℕ} → Closed d seed F → (masks : List ℕ) → Inside (maskAt masks) F → (i : ℕ) → i < d .count → Granted (asked (d .at) i (maskAt masks i)) F
   closed-grants {seed} {F} c masks in-F i h = asked-grow d s i h F (in-F .each i) (c .granted i h)
 
-  module _ (masks : List ℕ) (e : length masks ≡ d .count) where
-    pub length-round : (i : ℕ) → i ≤ d .count → length (roundTo d masks i) ≡ d .count
+  -- a list with a mask for each record, and all that is asked under a family M joined to it
+  module _ (M : ℕ → ℕ) (masks : List ℕ) (e : length masks ≡ d .count) where
+    pub length-round : (i : ℕ) → i ≤ d .count → length (roundTo d M masks i) ≡ d .count
     unfolding roundTo
     length-round zero h = e
     length-round (suc i) h =
         let below = length-round i (omega arith) in
-        length-grant (asked (d .at) i (maskAt masks i)) (roundTo d masks i) (asked-named (roundTo d masks i) below i h (maskAt masks i)) ∙ below
+        length-grant (asked (d .at) i (M i)) (roundTo d M masks i) (asked-named (roundTo d M masks i) below i h (M i)) ∙ below
 
-    named : (i : ℕ) → i < d .count → Named (length (roundTo d masks i)) (asked (d .at) i (maskAt masks i))
-    named i h = asked-named (roundTo d masks i) (length-round i (omega arith)) i h (maskAt masks i)
+    named : (i : ℕ) → i < d .count → Named (length (roundTo d M masks i)) (asked (d .at) i (M i))
+    named i h = asked-named (roundTo d M masks i) (length-round i (omega arith)) i h (M i)
 
-    pub round-above : (i : ℕ) → i ≤ d .count → Inside (maskAt masks) (maskAt (roundTo d masks i))
+    pub round-above : (i : ℕ) → i ≤ d .count → Inside (maskAt masks) (maskAt (roundTo d M masks i))
     unfolding roundTo
     round-above zero h = inside-refl (maskAt masks)
-    round-above (suc i) h =
-        inside-trans (round-above i (omega arith)) (grant-above (asked (d .at) i (maskAt masks i)) (roundTo d masks i) (named i h))
+    round-above (suc i) h = inside-trans (round-above i (omega arith)) (grant-above (asked (d .at) i (M i)) (roundTo d M masks i) (named i h))
 
-    pub round-granted : (i : ℕ) → i ≤ d .count → (j : ℕ) → j < i → Granted (asked (d .at) j (maskAt masks j)) (maskAt (roundTo d masks i))
+    pub round-granted : (i : ℕ) → i ≤ d .count → (j : ℕ) → j < i → Granted (asked (d .at) j (M j)) (maskAt (roundTo d M masks i))
     unfolding roundTo
     round-granted zero h j k = absurd (not-suc-le-zero k)
     round-granted (suc i) h j k = go (round-granted i (omega arith) j) (eq-or-lt-of-le (let l : j ≤ i = omega arith in l))
       where
-        go : (j < i → Granted (asked (d .at) j (maskAt masks j)) (maskAt (roundTo d masks i))) → (j ≡ i) ⊎ (j < i)
-            → Granted (asked (d .at) j (maskAt masks j)) (maskAt (roundTo d masks (suc i)))
+        go : (j < i → Granted (asked (d .at) j (M j)) (maskAt (roundTo d M masks i))) → (j ≡ i) ⊎ (j < i)
+            → Granted (asked (d .at) j (M j)) (maskAt (roundTo d M masks (suc i)))
         go below (inl q) =
-            subst (λ (j : ℕ). Granted (asked (d .at) j (maskAt masks j)) (maskAt (roundTo d masks (suc i)))) (sym q)
-            (grant-granted (asked (d .at) i (maskAt masks i)) (roundTo d masks i) (named i h))
-        go below (inr l) =
-            granted-more (grant-above (asked (d .at) i (maskAt masks i)) (roundTo d masks i) (named i h)) (asked (d .at) j (maskAt masks j)) (below l)
+            subst (λ (j : ℕ). Granted (asked (d .at) j (M j)) (maskAt (roundTo d M masks (suc i)))) (sym q)
+            (grant-granted (asked (d .at) i (M i)) (roundTo d M masks i) (named i h))
+        go below (inr l) = granted-more (grant-above (asked (d .at) i (M i)) (roundTo d M masks i) (named i h)) (asked (d .at) j (M j)) (below l)
 
-    pub round-least : {seed F : ℕ → ℕ} → Closed d seed F → Inside (maskAt masks) F → (i : ℕ) → i ≤ d .count → Inside (maskAt (roundTo d masks i)) F
-    unfolding roundTo
-    round-least c in-F zero h = in-F
-    round-least {seed} {F} c in-F (suc i) h =
-        grant-least F (asked (d .at) i (maskAt masks i)) (roundTo d masks i) (named i h) (round-least c in-F i (omega arith)) (closed-grants c masks in-F i h)
+    -- a family that lies above the list and grants all that is asked lies above them together
+    module _ (F : ℕ → ℕ) (in-F : Inside (maskAt masks) F) (grants : (j : ℕ) → j < d .count → Granted (asked (d .at) j (M j)) F) where
+      pub round-least : (i : ℕ) → i ≤ d .count → Inside (maskAt (roundTo d M masks i)) F
+      unfolding roundTo
+      round-least zero h = in-F
+      round-least (suc i) h = grant-least F (asked (d .at) i (M i)) (roundTo d M masks i) (named i h) (round-least i (omega arith)) (grants i h)

@@ -51,10 +51,10 @@ unfoldable pub grant : List Ask → List ℕ → List ℕ
 grant [] masks = masks
 grant (x ∷ xs) masks = grant xs (joined masks x)
 
--- Masks, with all that the records below i ask under them.
-unfoldable pub roundTo : Design → List ℕ → ℕ → List ℕ
-roundTo d masks zero = masks
-roundTo d masks (suc i) = grant (asked (d .at) i (maskAt masks i)) (roundTo d masks i)
+-- Masks, with all that the records below i ask under a family M.
+unfoldable pub roundTo : Design → (ℕ → ℕ) → List ℕ → ℕ → List ℕ
+roundTo d M masks zero = masks
+roundTo d M masks (suc i) = grant (asked (d .at) i (M i)) (roundTo d M masks i)
 
 -- "the sum of all widths, and the count of ones over all masks"
 abbrev pub widthSum : Design → ℕ
@@ -67,7 +67,7 @@ onesSum d masks = sumTo (λ i. countOnes (maskAt masks i)) (d .count)
 unfoldable pub settle : Design → ℕ → List ℕ → List ℕ
 settle d zero masks = masks
 settle d (suc turns) masks =
-    let next = roundTo d masks (d .count) in
+    let next = roundTo d (maskAt masks) masks (d .count) in
     cond (eqb (onesSum d next) (onesSum d masks)) masks (settle d turns next)
 
 -- The smallest closed family above the masks of a list. Each turn adds a bit, so there are no more turns than bits.

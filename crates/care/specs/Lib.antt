@@ -1,4 +1,5 @@
 -- The care masks: the smallest under the care rules, their tally, and the operation `masks`.
 -- Assumes nothing.
 pub mod Least
+pub mod Called
 pub mod Call

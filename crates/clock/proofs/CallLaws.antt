@@ -1,41 +1,21 @@
--- Laws of calls: the search for a word that is too wide, and what a call comes to by the answer of check and the lengths of its lists.
+-- Laws of calls: what a call comes to by the answer of check and the lengths of its lists.
 -- Assumes nothing.
 use mathlib.Core.Path.{_≡_, sym, ap, _∙_}
 use mathlib.Core.Bool.{Bool, true, false, cond}
 use mathlib.Core.List.{List}
-use Prim.Native.Nat.{ℕ, suc, _+_, _-_, _≤_, _<_}
-use native.Mathlib.Omega.{arith}
+use Prim.Native.Nat.{ℕ}
 use lib.Dec.{eqb}
 use borrow.Author.Tests.{eqb-true}
-use Rattle.netlist.specs.Layout.{Design, designOf}
+use Rattle.netlist.specs.Layout.{designOf}
 use Rattle.netlist.specs.declared.refusal.Refusal.{Refusal}
-use Rattle.netlist.specs.declared.refusal.Refusal.the-variants.{BadList, WideWord}
+use Rattle.netlist.specs.declared.refusal.Refusal.the-variants.{BadList}
 use Rattle.netlist.proofs.Tests.{and-first, and-second}
 use Rattle.rules.specs.declared.Checked.{Checked}
 use Rattle.rules.specs.declared.Checked.the-variants.{Accepted, Refused as refused}
-use Rattle.clock.specs.Call.{answerAfter, isWide, wideFrom, leaves, bothHave, startAnswer, startCall, cycleAnswer, cycleWith, cycleCall}
+use Rattle.clock.specs.Call.{answerAfter, leaves, bothHave, startAnswer, startCall, cycleAnswer, cycleWith, cycleCall}
 use Rattle.clock.specs.Values.{plainValues, plainNext, startOf}
 use Rattle.clock.specs.declared.Clocked.{Clocked}
-use Rattle.clock.specs.declared.Clocked.the-variants.{Done, Refused}
-
--- ---- the lowest record whose word is too wide
-
-module _ (d : Design) (board : List ℕ) (n i : ℕ) where
-  wide-step : i < n → wideFrom d board (n - i) i ≡ cond (isWide d board i) (Refused WideWord i) (wideFrom d board (n - (i + 1)) (i + 1))
-  unfolding wideFrom
-  wide-step h =
-      ap (λ (left : ℕ). wideFrom d board left i) (let e : n - i ≡ suc (n - (i + 1)) = omega arith in e)
-      ∙ ap (λ (j : ℕ). cond (isWide d board i) (Refused WideWord i) (wideFrom d board (n - (i + 1)) j)) (let e : suc i ≡ i + 1 = omega arith in e)
-
-  pub wide-here : i < n → isWide d board i ≡ true → wideFrom d board (n - i) i ≡ Refused WideWord i
-  wide-here h e = wide-step h ∙ ap (λ (b : Bool). cond b (Refused WideWord i) (wideFrom d board (n - (i + 1)) (i + 1))) e
-
-  pub wide-later : i < n → isWide d board i ≡ false → wideFrom d board (n - i) i ≡ wideFrom d board (n - (i + 1)) (i + 1)
-  wide-later h e = wide-step h ∙ ap (λ (b : Bool). cond b (Refused WideWord i) (wideFrom d board (n - (i + 1)) (i + 1))) e
-
-  pub wide-end : n ≤ i → wideFrom d board (n - i) i ≡ Done
-  unfolding wideFrom
-  wide-end h = ap (λ (left : ℕ). wideFrom d board left i) (let e : n - i ≡ 0 = omega arith in e)
+use Rattle.clock.specs.declared.Clocked.the-variants.{Refused}
 
 -- ---- the answer, by the answer of check and the lengths of the lists
 

@@ -2,12 +2,13 @@
 -- Assumes nothing.
 use mathlib.Core.Bool.{Bool, cond, not, _&&_}
 use mathlib.Core.List.{List}
-use Prim.Native.Nat.{ℕ, zero, suc, _^_}
+use Prim.Native.Nat.{ℕ, _^_}
 use lib.Dec.{eqb, ltb}
 use lib.ListN.{length}
 use Rattle.endian.specs.Lists.{wordAt}
 use Rattle.netlist.specs.Kinds.{isHeld}
 use Rattle.netlist.specs.Layout.{Design, designOf, roleAt}
+use Rattle.netlist.specs.Lowest.{lowest}
 use Rattle.netlist.specs.declared.record.Role.{Role}
 use Rattle.netlist.specs.declared.refusal.Refusal.the-variants.{BadList, WideWord}
 use Rattle.rules.specs.Check.{checkOf}
@@ -30,13 +31,8 @@ wordIsWide role word w = isHeld role && not (ltb word (2 ^ w))
 abbrev pub isWide : Design → List ℕ → ℕ → Bool
 isWide d board i = wordIsWide (roleAt d i) (wordAt board i) (d .at i .width)
 
--- The records from i on, `left` of them.
-unfoldable pub wideFrom : Design → List ℕ → ℕ → ℕ → Clocked
-wideFrom d board zero i = Done
-wideFrom d board (suc left) i = cond (isWide d board i) (Refused WideWord i) (wideFrom d board left (suc i))
-
 unfoldable pub wordsAnswer : Design → List ℕ → Clocked
-wordsAnswer d board = wideFrom d board (d .count) 0
+wordsAnswer d board = lowest (isWide d board) (Refused WideWord) Done (d .count)
 
 -- What a call leaves in a list lent to it: what it writes, or what was there. "No lent word or byte changes."
 abbrev pub leaves : Clocked → List ℕ → List ℕ → List ℕ

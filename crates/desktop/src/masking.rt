@@ -1,5 +1,5 @@
 // The masks of a file as bytes, for C.
-// `pcn_masks` asks nothing of a caller in Rattle; `masks_by` asks for a list of words that matches the buffer.
+// `pcn_masks` asks nothing of a caller in Rattle; `masks_in_words` asks for a list of words that matches the buffer.
 use crate::words::LONG_LIST;
 use crate::words::SHORT_LIST;
 use crate::words::word_count;
@@ -13,7 +13,7 @@ ghost use Rattle.desktop.specs.Buffers.{masksBuffer};
 ghost use Rattle.desktop.specs.Words.{Matches};
 
 // The same as `pcn_masks`, by way of a list of words.
-fn masks_by(words: &mut [u64], file: &[u8], buffer: &mut [u8]) -> u64
+fn masks_in_words(words: &mut [u64], file: &[u8], buffer: &mut [u8]) -> u64
     requires { ⌜ Matches (length (now words)) (length (now buffer)) ⌝ }
     ensures answer { λ r. ⌜ r ≡ talliedAnswer (masksBuffer (now (file .entry)) (now (buffer .entry)) .answer) ⌝ }
     ensures masks { λ r. ⌜ now (buffer .exit) ≡ masksBuffer (now (file .entry)) (now (buffer .entry)) .list ⌝ }
@@ -32,8 +32,8 @@ pub extern "C" fn pcn_masks(file: &[u8], masks: &mut [u8]) -> u64
     let n = word_count(masks.len());
     if n <= SHORT_LIST {
         let mut short: [u64; SHORT_LIST] = [0; SHORT_LIST];
-        return masks_by(&mut short[..n], file, masks);
+        return masks_in_words(&mut short[..n], file, masks);
     }
     let mut long: [u64; LONG_LIST] = [0; LONG_LIST];
-    masks_by(&mut long[..n], file, masks)
+    masks_in_words(&mut long[..n], file, masks)
 }

@@ -1,5 +1,5 @@
 // The trimmed file and its masks as bytes, for C.
-// `pcn_trim` asks nothing of a caller in Rattle; `trim_by` asks for a list of words that matches the mask list.
+// `pcn_trim` asks nothing of a caller in Rattle; `trim_in_words` asks for a list of words that matches the mask list.
 use crate::words::LONG_LIST;
 use crate::words::SHORT_LIST;
 use crate::words::word_count;
@@ -13,7 +13,7 @@ ghost use Rattle.desktop.specs.Buffers.{trimBuffers};
 ghost use Rattle.desktop.specs.Words.{Matches};
 
 // The same as `pcn_trim`, by way of a list of words.
-fn trim_by(words: &mut [u64], file: &[u8], masks: &mut [u8], destination: &mut [u8]) -> u64
+fn trim_in_words(words: &mut [u64], file: &[u8], masks: &mut [u8], destination: &mut [u8]) -> u64
     requires { ⌜ Matches (length (now words)) (length (now masks)) ⌝ }
     ensures answer { λ r. ⌜ r ≡ talliedAnswer (trimBuffers (now (file .entry)) (now (masks .entry)) (now (destination .entry)) .answer) ⌝ }
     ensures masks { λ r. ⌜ now (masks .exit) ≡ trimBuffers (now (file .entry)) (now (masks .entry)) (now (destination .entry)) .list ⌝ }
@@ -34,8 +34,8 @@ pub extern "C" fn pcn_trim(file: &[u8], masks: &mut [u8], destination: &mut [u8]
     let n = word_count(masks.len());
     if n <= SHORT_LIST {
         let mut short: [u64; SHORT_LIST] = [0; SHORT_LIST];
-        return trim_by(&mut short[..n], file, masks, destination);
+        return trim_in_words(&mut short[..n], file, masks, destination);
     }
     let mut long: [u64; LONG_LIST] = [0; LONG_LIST];
-    trim_by(&mut long[..n], file, masks, destination)
+    trim_in_words(&mut long[..n], file, masks, destination)
 }

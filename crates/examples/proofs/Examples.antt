@@ -7,13 +7,14 @@ use Rattle.endian.specs.Lists.{wordsFrom, wordsOf, sumTo}
 use Rattle.bits.specs.Words.{lengthIn}
 use Rattle.netlist.specs.Kinds.{kindOf, operandsOf}
 use Rattle.netlist.specs.Layout.{codeAt, widthAt, fieldsAt, keepAt, recordAt, designOf}
+use Rattle.netlist.specs.Lowest.{lowestFrom}
 use Rattle.rules.specs.Fit.{namesRules, operandRules, widthRulesAt, fieldRules, wordRules}
 use Rattle.rules.specs.Check.{headerRules, recordRules, firstBroken, refuseAt, checkFrom, checkOf}
 use Rattle.signal.specs.Results.{resultAt}
 use Rattle.signal.specs.Asks.{asked}
 use Rattle.care.specs.Call.{callAfter, masksCall}
 use Rattle.care.specs.Least.{grant, roundTo, settle, leastAbove, masksOf}
-use Rattle.clock.specs.Call.{answerAfter, wideFrom, wordsAnswer, startCall, cycleWith}
+use Rattle.clock.specs.Call.{answerAfter, wordsAnswer, startCall, cycleWith}
 use Rattle.clock.specs.Values.{valuesTo, valuesOf, nextOf, startOf}
 use Rattle.agreement.specs.Runs.{withInputs, callOn, runFrom, cyclesOf}
 use Rattle.examples.specs.Examples.{table, definedOf, saidOf, swappedRun}
@@ -21,12 +22,12 @@ use Rattle.examples.specs.Examples.{table, definedOf, saidOf, swappedRun
 pub examples : definedOf table ≡ saidOf table
 unfolding table definedOf saidOf onesIn lengthIn wordsFrom wordsOf sumTo kindOf operandsOf codeAt widthAt fieldsAt keepAt recordAt designOf
     headerRules namesRules operandRules widthRulesAt fieldRules wordRules recordRules firstBroken refuseAt checkFrom checkOf asked resultAt
-    callAfter masksCall grant roundTo settle leastAbove masksOf answerAfter wideFrom wordsAnswer cycleWith valuesTo valuesOf nextOf
+    callAfter masksCall grant roundTo settle leastAbove masksOf answerAfter lowestFrom wordsAnswer cycleWith valuesTo valuesOf nextOf
 examples = refl
 
 -- runs compute, too: the registers exchange their values, and the refused call leaves no trace
 pub run-example : swappedRun ≡ (1 ∷ 2 ∷ []) ∷ (2 ∷ 1 ∷ []) ∷ []
 unfolding swappedRun runFrom callOn cyclesOf withInputs startCall startOf wordsFrom wordsOf kindOf operandsOf codeAt widthAt fieldsAt keepAt recordAt
     designOf headerRules namesRules operandRules widthRulesAt fieldRules wordRules recordRules firstBroken refuseAt checkFrom checkOf resultAt
-    answerAfter wideFrom wordsAnswer cycleWith valuesTo valuesOf nextOf
+    answerAfter lowestFrom wordsAnswer cycleWith valuesTo valuesOf nextOf
 run-example = refl

@@ -36,7 +36,7 @@ fn seed_of(role: Role, w: u64) -> u64
 }
 
 // The mask that record i has before anything is asked of it.
-fn seed_at(file: &[u8], i: usize) -> u64
+pub fn seed_at(file: &[u8], i: usize) -> u64
     requires { ⌜ Acceptance (now file) (countOf (now file)) × (i < countOf (now file)) ⌝ }
     ensures { λ r. ⌜ r ≡ outputSeed (designOf (now (file .entry))) i ⌝ }
 {

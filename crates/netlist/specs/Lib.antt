@@ -3,5 +3,6 @@
 pub mod Kinds
 pub mod Layout
 pub mod Limits
+pub mod Lowest
 pub mod Refusals
 pub mod Rules

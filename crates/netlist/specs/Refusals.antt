@@ -2,7 +2,7 @@
 -- Assumes nothing.
 use Prim.Native.Nat.{ℕ}
 use Rattle.netlist.specs.declared.refusal.Refusal.{Refusal}
-use Rattle.netlist.specs.declared.refusal.Refusal.the-variants.{TooShort, BadMark, BadVersion, TooManyRecords, BadLength, BadKind, BadWidth, BadOperand, BadWidthRule, UnusedBit, BadList, WideWord, BadDestination}
+use Rattle.netlist.specs.declared.refusal.Refusal.the-variants.{TooShort, BadMark, BadVersion, TooManyRecords, BadLength, BadKind, BadWidth, BadOperand, BadWidthRule, UnusedBit, BadList, WideWord, BadDestination, BadMask}
 
 -- "What is refused, in checking order": the numbers of that list.
 abbrev pub numberOf : Refusal → ℕ
@@ -19,3 +19,4 @@ numberOf UnusedBit = 10
 numberOf BadList = 11
 numberOf WideWord = 12
 numberOf BadDestination = 13
+numberOf BadMask = 14

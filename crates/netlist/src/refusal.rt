@@ -18,6 +18,7 @@ pub enum Refusal {
     BadList,
     WideWord,
     BadDestination,
+    BadMask,
 }
 
 impl Refusal {
@@ -39,6 +40,7 @@ impl Refusal {
             Refusal::BadList => 11,
             Refusal::WideWord => 12,
             Refusal::BadDestination => 13,
+            Refusal::BadMask => 14,
         }
     }
 }

@@ -2,4 +2,3 @@
 -- Assumes nothing.
 mod Marks
 mod SweepLaws
-mod ListedAsks

@@ -6,12 +6,16 @@ use mathlib.Core.List.{List}
 use Prim.Native.Nat.{ℕ}
 use lib.ListN.{length}
 use borrow.Author.Tests.{eq-eqb, ne-eqb}
+use Rattle.netlist.specs.Layout.{designOf}
 use Rattle.netlist.specs.declared.refusal.Refusal.{Refusal}
-use Rattle.netlist.specs.declared.refusal.Refusal.the-variants.{BadDestination}
-use Rattle.care.specs.Call.{MasksCall, refuse}
+use Rattle.netlist.specs.declared.refusal.Refusal.the-variants.{BadList, BadDestination}
+use Rattle.rules.specs.Check.{checkOf}
+use Rattle.rules.specs.declared.Checked.the-variants.{Accepted, Refused as refused}
+use Rattle.care.specs.Call.{MasksCall, refuse, fillMasks, masksCall}
 use Rattle.care.specs.declared.Tally.{Tally}
 use Rattle.care.specs.declared.Tallied.the-variants.{Done, Refused}
-use Rattle.trim.specs.Call.{TrimCall, trimAnswer, leaves, trimAfter}
+use Rattle.care.proofs.CallLaws.{call-refused, call-bad-list, call-filled}
+use Rattle.trim.specs.Call.{TrimCall, trimAnswer, leaves, trimAfter, trimCall}
 use Rattle.trim.specs.Trimmed.{trimmed}
 
 -- a refused call, and one that writes both lists
@@ -43,6 +47,21 @@ module _ (masking : MasksCall) (file list destination : List ℕ) where
     pub trim-done : length destination ≡ length file → trimAfter masking file list destination ≡ written tally masks (trimmed file)
     unfolding trimAfter trimAnswer
     trim-done h = ap after e ∙ ap ends (eq-eqb (length destination) (length file) h)
+
+-- the refusals of a call, by the answer of check and the lengths of its lists
+module _ (file list destination : List ℕ) where
+  pub file-refused : {r : Refusal} {i : ℕ} → checkOf file ≡ refused r i → trimCall file list destination ≡ refuseTrim r i list destination
+  unfolding masksCall
+  file-refused e = trim-refused _ file list destination (call-refused (λ n. n) file (fillMasks (designOf file)) list e)
+
+  pub list-refused : {n : ℕ} → checkOf file ≡ Accepted n → (length list ≡ n → ⊥) → trimCall file list destination ≡ refuseTrim BadList 0 list destination
+  unfolding masksCall
+  list-refused e h = trim-refused _ file list destination (call-bad-list (λ n. n) file (fillMasks (designOf file)) list e h)
+
+  pub destination-refused : {n : ℕ} → checkOf file ≡ Accepted n → length list ≡ n → (length destination ≡ length file → ⊥)
+      → trimCall file list destination ≡ refuseTrim BadDestination 0 list destination
+  unfolding masksCall
+  destination-refused e h g = trim-bad-destination _ file list destination (call-filled (λ n. n) file (fillMasks (designOf file)) list e h) g
 
 -- the answer and the lists of a call, from what the call is
 pub all-of : (c e : TrimCall) → c ≡ e → (e .answer ≡ c .answer) × ((e .list ≡ c .list) × (e .destination ≡ c .destination))

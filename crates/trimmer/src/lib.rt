@@ -9,6 +9,7 @@ use rules::Checked;
 ghost use mathlib.Core.Path.{_≡_};
 ghost use Rattle.trim.specs.Call.{trimCall};
 
+pub mod by;
 pub mod write;
 
 pub fn trim(file: &[u8], list: &mut [u64], destination: &mut [u8]) -> Tallied

@@ -11,7 +11,7 @@ use Rattle.demand.specs.declared.Asks.{Asks}
 use Rattle.care.specs.Least.{grant, joined}
 use Rattle.care.proofs.Families.{length-joined}
 use Rattle.sweep.specs.Sweep.{markFor, marksOf}
-use Rattle.sweep.proofs.ListedAsks.{three-of, named-first, named-second, named-third}
+use Rattle.demand.proofs.ListedAsks.{three-of, named-first, named-second, named-third}
 use Rattle.sweep.proofs.join_all.Statement.{statement}
 use Rattle.sweep.proofs.join_all.Tie as tie
 

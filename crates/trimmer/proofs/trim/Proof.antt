@@ -4,14 +4,12 @@ use mathlib.Core.Path.{sym, ap, _∙_}
 use native.Mathlib.Omega.{arith}
 use borrow.Author.Needs.{needs}
 use denote.Ref.{now}
-use Rattle.netlist.specs.Layout.{designOf}
 use Rattle.rules.proofs.Acceptance.{accepted, lent}
 use Rattle.care.specs.declared.Tallied.the-variants.{Done}
-use Rattle.care.specs.Call.{masksCall, fillMasks}
 use Rattle.care.proofs.LeastMasks.{masks-length}
-use Rattle.care.proofs.CallLaws.{call-refused, call-bad-list, call-filled}
 use Rattle.trim.specs.Trimmed.{trimmedBy}
-use Rattle.trim.proofs.CallLaws.{trim-refused, trim-bad-destination, trim-done, all-of}
+use Rattle.trim.proofs.CallLaws.{file-refused, list-refused, destination-refused, all-of}
+use Rattle.trim.proofs.Promises.{writes}
 use Rattle.trimmer.proofs.trim.Statement.{statement}
 use Rattle.trimmer.proofs.trim.Tie as tie
 
@@ -22,24 +20,16 @@ enum-known-n : tie.Need-enum-known-n
 enum-known-n c = c .match .keys1
 
 returns : tie.Need-returns
-unfolding masksCall
 returns c = let args = c .before .before .before .before .before .before .before .before .args in
     let check = c .before .before .before .before .check in
-    let file = now (args .file) in
-    let list = now (args .list) in
-    all-of _ _ (trim-refused _ file list (now (args .destination))
-    (call-bad-list (λ n. n) file (fillMasks (designOf file)) list (sym (check .ensures) ∙ c .before .before .n .given .1)
-    (λ q. let t = c .if1 .taken in omega arith)))
+    all-of _ _ (list-refused (now (args .file)) (now (args .list)) (now (args .destination)) (sym (check .ensures) ∙ c .before .before .n .given .1)
+    (λ q. let t = c .if1 .taken in omega arith))
 
 returns-2 : tie.Need-returns-2
-unfolding masksCall
 returns-2 c = let args = c .before .before .before .before .before .before .before .before .before .args in
     let check = c .before .before .before .before .before .check in
-    let file = now (args .file) in
-    let list = now (args .list) in
-    all-of _ _ (trim-bad-destination _ file list (now (args .destination))
-    (call-filled (λ n. n) file (fillMasks (designOf file)) list (sym (check .ensures) ∙ c .before .before .before .n .given .1)
-    (let t = c .before .if1 .left in omega arith)) (λ q. let t = c .if2 .taken in omega arith))
+    all-of _ _ (destination-refused (now (args .file)) (now (args .list)) (now (args .destination)) (sym (check .ensures) ∙ c .before .before .before .n .given .1)
+    (let t = c .before .if1 .left in omega arith) (λ q. let t = c .if2 .taken in omega arith))
 
 fill-requires : tie.Need-fill-requires
 fill-requires c κs = let args = c .before .before .before .before .before .before .before .before .before .before .args in
@@ -70,7 +60,6 @@ same-length-2 : tie.Need-same-length-2
 same-length-2 c = search needs
 
 returns-3 : tie.Need-returns-3
-unfolding masksCall
 returns-3 c = let args = c .before .before .before .before .before .before .before .before .before .before .before .before .before .before .before
     .before .before .before .args in
     let check = c .before .before .before .before .before .before .before .before .before .before .before .before .before .before .check in
@@ -79,20 +68,15 @@ returns-3 c = let args = c .before .before .before .before .before .before .befo
     let if2 = c .before .before .before .before .before .before .before .before .before .if2 in
     let fill = c .before .before .before .before .before .before .before .fill in
     let file = now (args .file) in
-    let list = now (args .list) in
-    let b = all-of _ _ (trim-done _ file list (now (args .destination))
-    (call-filled (λ n. n) file (fillMasks (designOf file)) list (sym (check .ensures) ∙ n .given .1) (let t = if1 .left in omega arith))
-    (let t = if2 .left in omega arith)) in (
+    let b = all-of _ _ (writes file (now (args .list)) (now (args .destination)) _ (sym (check .ensures) ∙ n .given .1)
+    (let t = if1 .left in omega arith) (let t = if2 .left in omega arith)) in (
       ap Done (fill .ensures .0) ∙ b .0,
       (fill .ensures .1 ∙ b .1 .0, c .before .before .write-trimmed .ensures ∙ ap (trimmedBy file) (fill .ensures .1) ∙ b .1 .1),
     )
 
 returns-4 : tie.Need-returns-4
-unfolding masksCall
-returns-4 c = let file = now (c .before .before .before .before .before .before .before .args .file) in
-    let list = now (c .before .before .before .before .before .before .before .args .list) in
-    all-of _ _ (trim-refused _ file list (now (c .before .before .before .before .before .before .before .args .destination))
-    (call-refused (λ n. n) file (fillMasks (designOf file)) list (sym (c .before .before .before .check .ensures) ∙ c .before .r .given .1)))
+returns-4 c = let args = c .before .before .before .before .before .before .before .args in
+    all-of _ _ (file-refused (now (args .file)) (now (args .list)) (now (args .destination)) (sym (c .before .before .before .check .ensures) ∙ c .before .r .given .1))
 
 pub trim-spec : {M : Type 1} → statement M
 trim-spec =

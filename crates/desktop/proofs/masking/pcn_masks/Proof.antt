@@ -13,11 +13,11 @@ word-count-requires c κs = tt
 array-borrow-prefix-short : tie.Need-array-borrow-prefix-short
 array-borrow-prefix-short c = c .if1 .taken
 
-slice-aggregate-masks-by : tie.Need-slice-aggregate-masks-by
-slice-aggregate-masks-by c = sym (length-take-le _ _ (c .before .if1 .taken))
+slice-aggregate-masks-in-words : tie.Need-slice-aggregate-masks-in-words
+slice-aggregate-masks-in-words c = sym (length-take-le _ _ (c .before .if1 .taken))
 
-masks-by-requires : tie.Need-masks-by-requires
-masks-by-requires c κs = front-matches _ (c .before .before .if1 .taken) (c .before .before .before .word-count .ensures .1)
+masks-in-words-requires : tie.Need-masks-in-words-requires
+masks-in-words-requires c κs = front-matches _ (c .before .before .if1 .taken) (c .before .before .before .word-count .ensures .1)
 
 same-length : tie.Need-same-length
 same-length c = search needs
@@ -28,11 +28,11 @@ returns c = search needs
 array-borrow-prefix-long : tie.Need-array-borrow-prefix-long
 array-borrow-prefix-long c = c .before .word-count .ensures .0
 
-slice-aggregate-masks-by-2 : tie.Need-slice-aggregate-masks-by-2
-slice-aggregate-masks-by-2 c = sym (length-take-le _ _ (c .before .before .word-count .ensures .0))
+slice-aggregate-masks-in-words-2 : tie.Need-slice-aggregate-masks-in-words-2
+slice-aggregate-masks-in-words-2 c = sym (length-take-le _ _ (c .before .before .word-count .ensures .0))
 
-masks-by-requires-2 : tie.Need-masks-by-requires-2
-masks-by-requires-2 c κs = let counted = c .before .before .before .word-count .ensures in front-matches _ (counted .0) (counted .1)
+masks-in-words-requires-2 : tie.Need-masks-in-words-requires-2
+masks-in-words-requires-2 c κs = let counted = c .before .before .before .word-count .ensures in front-matches _ (counted .0) (counted .1)
 
 same-length-2 : tie.Need-same-length-2
 same-length-2 c = search needs
@@ -46,12 +46,12 @@ pcn-masks-spec =
     (tie.spec
     word-count-requires
     array-borrow-prefix-short
-    slice-aggregate-masks-by
-    masks-by-requires
+    slice-aggregate-masks-in-words
+    masks-in-words-requires
     same-length
     returns
     array-borrow-prefix-long
-    slice-aggregate-masks-by-2
-    masks-by-requires-2
+    slice-aggregate-masks-in-words-2
+    masks-in-words-requires-2
     same-length-2
     returns-2)

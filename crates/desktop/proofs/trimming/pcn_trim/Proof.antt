@@ -13,11 +13,11 @@ word-count-requires c κs = tt
 array-borrow-prefix-short : tie.Need-array-borrow-prefix-short
 array-borrow-prefix-short c = c .if1 .taken
 
-slice-aggregate-trim-by : tie.Need-slice-aggregate-trim-by
-slice-aggregate-trim-by c = sym (length-take-le _ _ (c .before .if1 .taken))
+slice-aggregate-trim-in-words : tie.Need-slice-aggregate-trim-in-words
+slice-aggregate-trim-in-words c = sym (length-take-le _ _ (c .before .if1 .taken))
 
-trim-by-requires : tie.Need-trim-by-requires
-trim-by-requires c κs = front-matches _ (c .before .before .before .if1 .taken) (c .before .before .before .before .word-count .ensures .1)
+trim-in-words-requires : tie.Need-trim-in-words-requires
+trim-in-words-requires c κs = front-matches _ (c .before .before .before .if1 .taken) (c .before .before .before .before .word-count .ensures .1)
 
 same-length : tie.Need-same-length
 same-length c = search needs
@@ -31,11 +31,11 @@ returns c = search needs
 array-borrow-prefix-long : tie.Need-array-borrow-prefix-long
 array-borrow-prefix-long c = c .before .word-count .ensures .0
 
-slice-aggregate-trim-by-2 : tie.Need-slice-aggregate-trim-by-2
-slice-aggregate-trim-by-2 c = sym (length-take-le _ _ (c .before .before .word-count .ensures .0))
+slice-aggregate-trim-in-words-2 : tie.Need-slice-aggregate-trim-in-words-2
+slice-aggregate-trim-in-words-2 c = sym (length-take-le _ _ (c .before .before .word-count .ensures .0))
 
-trim-by-requires-2 : tie.Need-trim-by-requires-2
-trim-by-requires-2 c κs = let counted = c .before .before .before .before .word-count .ensures in front-matches _ (counted .0) (counted .1)
+trim-in-words-requires-2 : tie.Need-trim-in-words-requires-2
+trim-in-words-requires-2 c κs = let counted = c .before .before .before .before .word-count .ensures in front-matches _ (counted .0) (counted .1)
 
 same-length-3 : tie.Need-same-length-3
 same-length-3 c = search needs
@@ -52,14 +52,14 @@ pcn-trim-spec =
     (tie.spec
     word-count-requires
     array-borrow-prefix-short
-    slice-aggregate-trim-by
-    trim-by-requires
+    slice-aggregate-trim-in-words
+    trim-in-words-requires
     same-length
     same-length-2
     returns
     array-borrow-prefix-long
-    slice-aggregate-trim-by-2
-    trim-by-requires-2
+    slice-aggregate-trim-in-words-2
+    trim-in-words-requires-2
     same-length-3
     same-length-4
     returns-2)

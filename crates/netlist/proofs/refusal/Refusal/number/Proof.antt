@@ -43,6 +43,9 @@ enum-told-12 c = c .match .keys12
 enum-told-13 : tie.Need-enum-told-13
 enum-told-13 c = c .match .keys13
 
+enum-told-14 : tie.Need-enum-told-14
+enum-told-14 c = c .match .keys14
+
 returns : tie.Need-returns
 returns c = (rw (c .enum-told .given .1), lit< tt)
 
@@ -82,6 +85,9 @@ returns-12 c = (rw (c .enum-told12 .given .1), lit< tt)
 returns-13 : tie.Need-returns-13
 returns-13 c = (rw (c .enum-told13 .given .1), lit< tt)
 
+returns-14 : tie.Need-returns-14
+returns-14 c = (rw (c .enum-told14 .given .1), lit< tt)
+
 pub number-spec : {M : Type 1} → statement M
 number-spec =
     tie.close
@@ -99,6 +105,7 @@ number-spec =
     enum-told-11
     enum-told-12
     enum-told-13
+    enum-told-14
     returns
     returns-2
     returns-3
@@ -111,4 +118,5 @@ number-spec =
     returns-10
     returns-11
     returns-12
-    returns-13)
+    returns-13
+    returns-14)

@@ -1,4 +1,4 @@
--- `desktop::trimming::trim_by` meets its contract: the operation's call on the list of words is the call on the mask list.
+-- `desktop::trimming::trim_in_words` meets its contract: the operation's call on the list of words is the call on the mask list.
 -- Assumes nothing.
 use mathlib.Core.Path.{sym, ap, ap₂, subst, _∙_}
 use mathlib.Core.List.{List}
@@ -12,8 +12,8 @@ use Rattle.answer.specs.Answer.{talliedAnswer}
 use Rattle.answer.specs.Fits.{TalliedFits}
 use Rattle.answer.proofs.Fitting.{trim-fits}
 use Rattle.desktop.proofs.WordLaws.{same-trim, trim-room}
-use Rattle.desktop.proofs.trimming.trim_by.Statement.{statement}
-use Rattle.desktop.proofs.trimming.trim_by.Tie as tie
+use Rattle.desktop.proofs.trimming.trim_in_words.Statement.{statement}
+use Rattle.desktop.proofs.trimming.trim_in_words.Tie as tie
 
 trim-requires : tie.Need-trim-requires
 trim-requires c κs = tt
@@ -50,8 +50,8 @@ returns c = let s = c .before .before .before .before .before .before .before .b
       ),
     )
 
-pub trim-by-spec : {M : Type 1} → statement M
-trim-by-spec =
+pub trim-in-words-spec : {M : Type 1} → statement M
+trim-in-words-spec =
     tie.close
     (tie.spec
     trim-requires

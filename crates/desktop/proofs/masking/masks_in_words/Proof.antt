@@ -1,4 +1,4 @@
--- `desktop::masking::masks_by` meets its contract: the operation's call on the list of words is the call on the buffer.
+-- `desktop::masking::masks_in_words` meets its contract: the operation's call on the list of words is the call on the buffer.
 -- Assumes nothing.
 use mathlib.Core.Path.{sym, ap, ap₂, subst, _∙_}
 use mathlib.Core.List.{List}
@@ -13,8 +13,8 @@ use Rattle.answer.specs.Answer.{talliedAnswer}
 use Rattle.answer.specs.Fits.{TalliedFits}
 use Rattle.answer.proofs.Fitting.{masks-fits}
 use Rattle.desktop.proofs.WordLaws.{masks-match}
-use Rattle.desktop.proofs.masking.masks_by.Statement.{statement}
-use Rattle.desktop.proofs.masking.masks_by.Tie as tie
+use Rattle.desktop.proofs.masking.masks_in_words.Statement.{statement}
+use Rattle.desktop.proofs.masking.masks_in_words.Tie as tie
 
 masks-requires : tie.Need-masks-requires
 masks-requires c κs = tt
@@ -45,5 +45,5 @@ returns c = let s = c .before .before .before .before .before .before .before .b
           ∙ sym (ap (λ (m : MasksCall). m .list) same),
     )
 
-pub masks-by-spec : {M : Type 1} → statement M
-masks-by-spec = tie.close (tie.spec masks-requires write-accepted-requires of-tallied-requires same-length same-length-2 returns)
+pub masks-in-words-spec : {M : Type 1} → statement M
+masks-in-words-spec = tie.close (tie.spec masks-requires write-accepted-requires of-tallied-requires same-length same-length-2 returns)

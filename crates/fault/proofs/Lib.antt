@@ -1,0 +1,3 @@
+-- The laws of the search, for the proofs of this crate.
+-- Assumes nothing.
+mod FaultLaws
