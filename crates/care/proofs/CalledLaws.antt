@@ -77,10 +77,6 @@ module _ (d : Design) (s : Sound d) (seed : ℕ → ℕ) (masks : List ℕ) wher
   seed-size : length (wordsOf seed (d .count)) ≡ d .count
   seed-size = length-words seed (d .count)
 
-  called-size : length (calledFor d seed masks) ≡ d .count
-  unfolding calledFor
-  called-size = length-round d s (maskAt masks) (wordsOf seed (d .count)) seed-size (d .count) (omega arith)
-
   -- what is called for at a record is its seed ..
   pub seed-called : (i : ℕ) → i < d .count → Within (seed i) (called i)
   unfolding calledFor
@@ -103,7 +99,19 @@ module _ (d : Design) (s : Sound d) (seed : ℕ → ℕ) (masks : List ℕ) wher
       (λ j h. subst (λ (m : ℕ). Within m (F j)) (sym (word-at seed (d .count) j h)) (seeded j h)))
       granted (d .count) (omega arith) .each i
 
-  -- a mask that lacks a called-for bit, or has one outside its width, is faulty
+  called-size : length (calledFor d seed masks) ≡ d .count
+  unfolding calledFor
+  called-size = length-round d s (maskAt masks) (wordsOf seed (d .count)) seed-size (d .count) (omega arith)
+
+  -- a mask that has a bit outside its width, or lacks a called-for bit, is faulty
+  pub wide-faulty : (i : ℕ) → exceeds (maskAt masks i) (lowMask (d .at i .width)) ≡ true → isFaulty d seed masks i ≡ true
+  unfolding isFaulty
+  wide-faulty i e = go (exceeds (called i) (maskAt masks i))
+    where
+      go : (b : Bool) → (b || exceeds (maskAt masks i) (lowMask (d .at i .width))) ≡ true
+      go true = refl
+      go false = e
+
   pub lacking-faulty : (i m : ℕ) → Within m (called i) → exceeds m (maskAt masks i) ≡ true → isFaulty d seed masks i ≡ true
   unfolding isFaulty
   lacking-faulty i m w e = go (exceeds (called i) (maskAt masks i)) refl
@@ -112,14 +120,6 @@ module _ (d : Design) (s : Sound d) (seed : ℕ → ℕ) (masks : List ℕ) wher
       go true q = refl
       go false q =
           absurd (let f = within-not-exceeds (within-trans w (not-exceeds-within (called i) (maskAt masks i) q)) in let z : _≡_ {A = ℕ} 0 1 = cc in omega arith)
-
-  pub wide-faulty : (i : ℕ) → exceeds (maskAt masks i) (lowMask (d .at i .width)) ≡ true → isFaulty d seed masks i ≡ true
-  unfolding isFaulty
-  wide-faulty i e = go (exceeds (called i) (maskAt masks i))
-    where
-      go : (b : Bool) → (b || exceeds (maskAt masks i) (lowMask (d .at i .width))) ≡ true
-      go true = refl
-      go false = e
 
   -- what it takes that no record below r is faulty
   module _ (r : ℕ) (low : r ≤ d .count) (narrow : (i : ℕ) → i < r → Within (maskAt masks i) (lowMask (d .at i .width)))

@@ -13,11 +13,14 @@ use Rattle.rules.specs.Check.{headerRules, recordRules, firstBroken, refuseAt, 
 use Rattle.signal.specs.Results.{resultAt}
 use Rattle.signal.specs.Asks.{asked}
 use Rattle.care.specs.Call.{callAfter, masksCall}
+use Rattle.care.specs.Called.{calledFor, isFaulty}
 use Rattle.care.specs.Least.{grant, roundTo, settle, leastAbove, masksOf}
 use Rattle.clock.specs.Call.{answerAfter, wordsAnswer, startCall, cycleWith}
 use Rattle.clock.specs.Values.{valuesTo, valuesOf, nextOf, startOf}
+use Rattle.trim.specs.Call.{trimAnswer, trimAfter}
+use Rattle.trim.specs.CallBy.{afterTrim, listAnswer, trimByCall}
 use Rattle.agreement.specs.Runs.{withInputs, callOn, runFrom, cyclesOf}
-use Rattle.examples.specs.Examples.{table, definedOf, saidOf, swappedRun}
+use Rattle.examples.specs.Examples.{table, definedOf, saidOf, swappedRun, listAnswers}
 
 pub examples : definedOf table ≡ saidOf table
 unfolding table definedOf saidOf onesIn lengthIn wordsFrom wordsOf sumTo kindOf operandsOf codeAt widthAt fieldsAt keepAt recordAt designOf
@@ -31,3 +34,10 @@ unfolding swappedRun runFrom callOn cyclesOf withInputs startCall startOf wordsF
     designOf headerRules namesRules operandRules widthRulesAt fieldRules wordRules recordRules firstBroken refuseAt checkFrom checkOf resultAt
     answerAfter lowestFrom wordsAnswer cycleWith valuesTo valuesOf nextOf
 run-example = refl
+
+-- and so do lists to trim by
+pub list-examples : listAnswers ≡ (192 ∷ 112 ∷ []) ∷ (192 ∷ 192 ∷ []) ∷ (14 ∷ 1 ∷ []) ∷ (14 ∷ 3 ∷ []) ∷ (14 ∷ 5 ∷ []) ∷ (14 ∷ 0 ∷ []) ∷ (14 ∷ 0 ∷ []) ∷ []
+unfolding listAnswers onesIn lengthIn wordsFrom wordsOf sumTo kindOf operandsOf codeAt widthAt fieldsAt keepAt recordAt designOf
+    headerRules namesRules operandRules widthRulesAt fieldRules wordRules recordRules firstBroken refuseAt checkFrom checkOf asked
+    callAfter masksCall grant roundTo lowestFrom calledFor isFaulty trimAnswer trimAfter afterTrim listAnswer trimByCall
+list-examples = refl

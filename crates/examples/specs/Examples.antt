@@ -1,4 +1,4 @@
--- The examples of 01 that are marked P: one table, each row from the bytes of a file.
+-- The examples of 01 that are marked P: one table, each row from the bytes of a file; a run, and lists to trim by, as further ones.
 -- Assumes nothing.
 use mathlib.Core.List.{List, [], _∷_, _++_}
 use Prim.Native.Nat.{ℕ}
@@ -13,6 +13,7 @@ use Rattle.care.specs.declared.Tallied.{Tallied}
 use Rattle.care.specs.declared.Tallied.the-variants.{Done, Refused}
 use Rattle.clock.specs.Call.{cycleCall}
 use Rattle.clock.specs.Values.{unchanged}
+use Rattle.trim.specs.CallBy.{trimByCall}
 use Rattle.agreement.specs.Runs.{start, cycle, Cycle, runOf, cyclesOf}
 
 -- The bytes of a record: kind, width, a, b, c, k and keep word. "All keep words are full unless stated."
@@ -139,3 +140,21 @@ unfoldable pub swappedRun : List (List ℕ)
 swappedRun =
     let calls = start ∷ cycle (λ i. 0) [] ∷ cycle (λ i. 0) (7 ∷ 7 ∷ []) ∷ cycle (λ i. 0) (0 ∷ 0 ∷ []) ∷ [] in
     valuesIn (cyclesOf (runOf (λ j. unchanged) swapped (9 ∷ 9 ∷ []) calls))
+
+-- What trim_by answers for a file and a list, not from 01: the tally, or the refusal and its record.
+abbrev listSays : List ℕ → List ℕ → List ℕ
+listSays file list = answerOf (trimByCall file list file .answer)
+
+-- The ramp by its smallest masks, and by all bits. Then the shift chain, whose smallest masks are 1, f, 7, f, 1, 1: the register lacks a bit that
+-- record 2 asks for; record 3 lacks a bit that the register loads; the output lacks its own; the input has a bit beyond its width; and the last
+-- two at once.
+unfoldable pub listAnswers : List (List ℕ)
+listAnswers =
+    listSays (ramp 16 0) (0xffff ∷ 0xffff ∷ 0xffff ∷ 0xffff ∷ 0xffff ∷ 0xffff ∷ 0xffff ∷ [])
+    ∷ listSays (ramp 16 0) (lowMask 32 ∷ lowMask 32 ∷ lowMask 32 ∷ lowMask 32 ∷ lowMask 32 ∷ 0xffff ∷ 0xffff ∷ [])
+    ∷ listSays shiftChain (1 ∷ 7 ∷ 7 ∷ 0xf ∷ 1 ∷ 1 ∷ [])
+    ∷ listSays shiftChain (1 ∷ 0xf ∷ 7 ∷ 7 ∷ 1 ∷ 1 ∷ [])
+    ∷ listSays shiftChain (1 ∷ 0xf ∷ 7 ∷ 0xf ∷ 1 ∷ 0 ∷ [])
+    ∷ listSays shiftChain (3 ∷ 0xf ∷ 7 ∷ 0xf ∷ 1 ∷ 1 ∷ [])
+    ∷ listSays shiftChain (3 ∷ 0xf ∷ 7 ∷ 0xf ∷ 1 ∷ 0 ∷ [])
+    ∷ []

@@ -38,15 +38,15 @@ module _ (file list destination : List ℕ) where
   after : TrimCall → TrimByCall
   after c = answering (afterTrim (c .answer) (listAnswer (designOf file) list)) (trimmedBy file list) destination
 
-  pub by-refused : {r : Refusal} {i : ℕ} → trimCall file list destination ≡ refuseTrim r i list destination
-      → trimByCall file list destination ≡ answering (Refused r i) (trimmedBy file list) destination
-  unfolding trimByCall afterTrim after
-  by-refused e = ap after e
-
   pub by-list : {tally : Tally} {masks other : List ℕ} → trimCall file list destination ≡ written tally masks other
       → trimByCall file list destination ≡ answering (listAnswer (designOf file) list) (trimmedBy file list) destination
   unfolding trimByCall afterTrim after
   by-list e = ap after e
+
+  pub by-refused : {r : Refusal} {i : ℕ} → trimCall file list destination ≡ refuseTrim r i list destination
+      → trimByCall file list destination ≡ answering (Refused r i) (trimmedBy file list) destination
+  unfolding trimByCall afterTrim after
+  by-refused e = ap after e
 
   -- what is so of each end is so of the call
   module _ (P : TrimByCall → Type 0) (refuses : (r : Refusal) (i : ℕ) → (i ≡ 0) ⊎ (checkOf file ≡ refused r i) → P (answering (Refused r i) (trimmedBy file list) destination))
@@ -74,10 +74,6 @@ module _ (d : Design) (list : List ℕ) where
   faulty = isFaulty d (outputSeed d) list
 
   module _ (r : ℕ) (e : r ≡ lowest faulty (λ i. i) (d .count) (d .count)) where
-    pub list-broken : r < d .count → listAnswer d list ≡ Refused BadMask r
-    unfolding listAnswer
-    list-broken h = lowest-found faulty (Refused BadMask) (Done (tallyOf d list)) (d .count) r (number-lowest faulty (d .count) r e) h
-
     module _ (h : d .count ≤ r) where
       pub list-done : listAnswer d list ≡ Done (tallyOf d list)
       unfolding listAnswer
@@ -85,6 +81,10 @@ module _ (d : Design) (list : List ℕ) where
 
       pub list-fits : Sound d → length list ≡ d .count → Fits d list
       list-fits s size = clear-fits d s (outputSeed d) list (λ i g. number-lowest faulty (d .count) r e .clear i (omega arith)) size
+
+    pub list-broken : r < d .count → listAnswer d list ≡ Refused BadMask r
+    unfolding listAnswer
+    list-broken h = lowest-found faulty (Refused BadMask) (Done (tallyOf d list)) (d .count) r (number-lowest faulty (d .count) r e) h
 
 -- the answer and the destination of a call, from what the call is
 pub two-of : (c e : TrimByCall) → c ≡ e → (e .answer ≡ c .answer) × (e .destination ≡ c .destination)

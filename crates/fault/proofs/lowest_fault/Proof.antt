@@ -23,14 +23,21 @@ loop-holds c = let a = c .before .before .args in
     subst (Searched d (now (a .list)) 0) (sym (c .before .before .pre .size)) (searched-none d (now (a .list)))
 
 of-record-requires : tie.Need-of-record-requires Inv-loop μ-loop
+unfolding designOf
 of-record-requires c κs = let pre = c .before .before .before .before .pre in
+    let n = c .before .loop .inv .in-range in
     record { accepted = pre .accepted; size = pre .size; below = let e = pre .size in let t = c .loop-test .taken in omega arith }
 
 add-i : tie.Need-add-i Inv-loop μ-loop
-add-i c = let t = c .before .loop-test .taken in omega arith
+unfolding designOf
+add-i c = let f = c .before .before .before .before .before .pre .accepted .sound .few in let p = c .before .before .loop .inv .place in omega arith
 
 loop-less : tie.Need-loop-less Inv-loop μ-loop
-loop-less c = let t = c .before .loop-test .taken in let e = c .before .before .before .before .before .pre .size in omega arith
+unfolding designOf
+loop-less c = let t = c .before .loop-test .taken in
+    let e = c .before .before .before .before .before .pre .size in
+    let n = c .before .before .loop .inv .in-range in
+    omega arith
 
 loop-again : tie.Need-loop-again Inv-loop μ-loop
 unfolding designOf
@@ -38,6 +45,7 @@ loop-again c = let a = c .before .before .before .before .before .args in
     let d = designOf (now (a .file)) in
     let loop = c .before .before .loop in
     let pre = c .before .before .before .before .before .pre in
+    let n = loop .inv .in-range in
     subst (Searched d (now (a .list)) (loop .i + 1)) (sym (c .of-record .ensures))
     (searched-next d (pre .accepted .sound) (now (a .list)) (loop .i) (loop .low)
     (let t = c .before .loop-test .taken in let e = pre .size in omega arith) (loop .inv))
