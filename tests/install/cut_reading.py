@@ -21,6 +21,7 @@ REASONS = {
     8: "an operand names a record that it may not read",
     9: "the widths do not fit as the kind demands",
     10: "an unused field or bit is not 0",
+    14: "the mask lacks a bit or has one beyond the width",
 }
 
 
@@ -28,6 +29,13 @@ class Answer(NamedTuple):
     text: str
     status: int
     trimmed: Optional[bytes]
+
+
+def masks_of(program, data):
+    """The lines that the program masks prints."""
+    done = subprocess.run([program], input=data, capture_output=True,
+                          check=True)
+    return done.stdout.decode().splitlines()
 
 
 class Reading:
@@ -38,9 +46,7 @@ class Reading:
         self.met = set()
 
     def of(self, data):
-        done = subprocess.run([self.program], input=data, capture_output=True,
-                              check=True)
-        first, *lines = done.stdout.decode().splitlines()
+        first, *lines = masks_of(self.program, data)
         if first.startswith("refused"):
             number = int(first.split()[1])
             self.met.add(number)

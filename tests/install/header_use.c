@@ -38,3 +38,15 @@ int refused_record(const uint8_t *file, size_t length, uint64_t *board,
                                    || PCN_REFUSAL(answer) == PCN_WIDE_WORD)
                ? (int)PCN_RECORD(answer) : -1;
 }
+
+/* The record whose mask is refused when the file is trimmed by this list, or
+   -1. */
+int refused_mask(const uint8_t *file, size_t length, const uint64_t *masks,
+                 size_t records, uint8_t *destination)
+{
+    uint64_t answer = pcn_trim_by(file, length, masks, records, destination,
+                                  length);
+
+    return PCN_REFUSED(answer) && PCN_REFUSAL(answer) == PCN_BAD_MASK
+               ? (int)PCN_RECORD(answer) : -1;
+}

@@ -10,6 +10,7 @@ import tempfile
 
 from counting import Counting, arguments
 from cut_reading import Reading
+from keep_reading import Reading as Kept
 
 STRICT = ["-std=c99", "-Wall", "-Wextra", "-Werror", "-pedantic"]
 MODES = {"bin/masks": 0o755, "include/pcn.h": 0o644, "lib/libpcn.a": 0o644}
@@ -107,14 +108,20 @@ def used(tests):
                  work / "main.c", *linked, work / "all")
     tests.end("the installed library has every function")
 
-    shutil.copy(tests.root / "examples" / "cut.c", work)
-    tests.expect("", "gcc", *STRICT, f"-I{tests.prefix / 'include'}",
-                 work / "cut.c", *linked, work / "cut")
-    if (work / "cut").exists():
-        tests.expect(right.text, work / "cut", ramp, work / "trimmed.pcn")
+    for name in ("cut.c", "keep.c", "files.h"):
+        shutil.copy(tests.root / "examples" / name, work)
+    for name, text in (("cut", right.text),
+                       ("keep", Kept(tests.program, ramp.read_bytes(),
+                                     {}).text)):
+        tests.expect("", "gcc", *STRICT, f"-I{tests.prefix / 'include'}",
+                     work / f"{name}.c", *linked, work / name)
+        if not (work / name).exists():
+            continue
+        tests.expect(text, work / name, ramp, work / "trimmed.pcn")
         if (work / "trimmed.pcn").read_bytes() != right.trimmed:
-            tests.fault("another trimmed file")
-    tests.end("a C program uses the installed header and library")
+            tests.fault(f"{name}: another trimmed file")
+        (work / "trimmed.pcn").unlink()
+    tests.end("two C programs use the installed header and library")
 
 
 def uninstalled(tests):
