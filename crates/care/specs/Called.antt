@@ -9,7 +9,8 @@ use Rattle.bits.specs.Words.{lowMask}
 use Rattle.netlist.specs.Layout.{Design}
 use Rattle.care.specs.Least.{maskAt, roundTo}
 
--- #105: what is called for at each record: its seed, joined with all that the records ask of it, each with its own mask in the list.
+-- #105: what is called for at each record: its seed, joined with all that the records ask of it. Each asks with its own mask in the list, so D is
+-- the list's.
 unfoldable pub calledFor : Design → (ℕ → ℕ) → List ℕ → List ℕ
 calledFor d seed masks = roundTo d (maskAt masks) (wordsOf seed (d .count)) (d .count)
 

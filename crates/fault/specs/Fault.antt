@@ -1,4 +1,4 @@
--- The lowest record at fault so far, with one more thing looked at. No public promise mentions it.
+-- The lowest record at fault, and the lowest so far with one more thing looked at. No public promise mentions it.
 -- Assumes nothing.
 use mathlib.Core.Bool.{Bool, cond}
 use mathlib.Core.List.{List, [], _∷_}
@@ -6,11 +6,17 @@ use Prim.Native.Nat.{ℕ, min}
 use Rattle.bits.specs.Masks.{exceeds}
 use Rattle.bits.specs.Words.{lowMask}
 use Rattle.netlist.specs.Layout.{Design}
+use Rattle.netlist.specs.Lowest.{lowest}
 use Rattle.signal.specs.Asks.{ask, asked}
 use Rattle.signal.specs.declared.Ask.{Ask}
+use Rattle.care.specs.Called.{isFaulty}
 use Rattle.care.specs.Least.{maskAt, outputSeed}
 
--- `low`, or `at` where that is at fault and lower.
+-- The lowest record at fault, or the count of records where none is.
+abbrev pub lowestFault : Design → List ℕ → ℕ
+lowestFault d masks = lowest (isFaulty d (outputSeed d) masks) (λ i. i) (d .count) (d .count)
+
+-- What the search does: `low`, or `at` where that is at fault and lower.
 abbrev pub lowerIf : Bool → ℕ → ℕ → ℕ
 lowerIf fault at low = cond fault (min at low) low
 

@@ -11,14 +11,11 @@ use signal::Ask;
 ghost use mathlib.Core.Path.{_≡_};
 ghost use Prim.Native.Nat.{_<_, min};
 ghost use lib.ListN.{length};
-ghost use Rattle.netlist.specs.Layout.{designOf, countOf};
-ghost use Rattle.netlist.specs.Lowest.{lowest};
+ghost use Rattle.netlist.specs.Layout.{designOf};
 ghost use Rattle.rules.specs.Lent.{Lent, LentAt};
 ghost use Rattle.signal.specs.AskLists.{Named};
 ghost use Rattle.demand.specs.Held.{listed};
-ghost use Rattle.care.specs.Called.{isFaulty};
-ghost use Rattle.care.specs.Least.{outputSeed};
-ghost use Rattle.fault.specs.Fault.{lowerIf, askFault, asksFault, ownFault, recordFault};
+ghost use Rattle.fault.specs.Fault.{lowestFault, lowerIf, askFault, asksFault, ownFault, recordFault};
 
 fn smaller(a: usize, b: usize) -> usize
     ensures { λ r. ⌜ r ≡ min a b ⌝ }
@@ -88,7 +85,7 @@ fn of_record(file: &[u8], list: &[u64], i: usize, low: usize) -> usize
 // The lowest record at fault, or the count of records where none is.
 pub fn lowest_fault(file: &[u8], list: &[u64]) -> usize
     requires { ⌜ Lent (now file) (now list) ⌝ }
-    ensures { λ r. ⌜ r ≡ lowest (isFaulty (designOf (now (file .entry))) (outputSeed (designOf (now (file .entry)))) (now (list .entry))) (λ i. i) (countOf (now (file .entry))) (countOf (now (file .entry))) ⌝ }
+    ensures { λ r. ⌜ r ≡ lowestFault (designOf (now (file .entry))) (now (list .entry)) ⌝ }
 {
     let mut low = list.len();
     let mut i: usize = 0;
