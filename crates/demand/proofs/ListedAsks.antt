@@ -8,6 +8,11 @@ use lib.ListN.{take}
 use lib.Seq.{take-all}
 use Rattle.signal.specs.declared.Ask.{Ask}
 use Rattle.signal.specs.AskLists.{Named}
+use Rattle.demand.specs.declared.Asks.{Asks}
+
+-- the first k of a struct's three asks: how many there are is known at each return
+abbrev pub counted : Asks → ℕ → List Ask
+counted r k = take k (r .first ∷ r .second ∷ r .third ∷ [])
 
 -- the first k of three
 module _ (x y z : Ask) where

@@ -1,19 +1,12 @@
 -- `fault::of_asks` meets its contract: the asks are looked at one after the other, as many as there are.
 -- Assumes nothing.
 use mathlib.Core.Path.{sym, ap, _∙_}
-use mathlib.Core.List.{List, [], _∷_}
 use Prim.Native.Nat.{ℕ}
-use lib.ListN.{take}
 use denote.Ref.{now}
-use Rattle.signal.specs.declared.Ask.{Ask}
-use Rattle.demand.proofs.ListedAsks.{three-of, named-first, named-second, named-third}
-use Rattle.demand.specs.declared.Asks.{Asks}
+use Rattle.demand.proofs.ListedAsks.{counted, three-of, named-first, named-second, named-third}
 use Rattle.fault.specs.Fault.{askFault, asksFault}
 use Rattle.fault.proofs.of_asks.Statement.{statement}
 use Rattle.fault.proofs.of_asks.Tie as tie
-
-abbrev counted : Asks → ℕ → List Ask
-counted r k = take k (r .first ∷ r .second ∷ r .third ∷ [])
 
 returns : tie.Need-returns
 unfolding asksFault

@@ -1,23 +1,18 @@
 -- `sweep::join_all` meets its contract: the asks are joined one after the other, as many as there are.
 -- Assumes nothing.
-use mathlib.Core.List.{List, [], _∷_}
+use mathlib.Core.List.{List}
 use mathlib.Core.Path.{_≡_, sym, ap, ap₂, subst, _∙_}
 use Prim.Native.Nat.{ℕ, _<_}
-use lib.ListN.{length, take}
+use lib.ListN.{length}
 use borrow.Author.Needs.{needs}
 use denote.Ref.{now}
 use Rattle.signal.specs.declared.Ask.{Ask}
-use Rattle.demand.specs.declared.Asks.{Asks}
+use Rattle.demand.proofs.ListedAsks.{counted, three-of, named-first, named-second, named-third}
 use Rattle.care.specs.Least.{grant, joined}
 use Rattle.care.proofs.Families.{length-joined}
 use Rattle.sweep.specs.Sweep.{markFor, marksOf}
-use Rattle.demand.proofs.ListedAsks.{three-of, named-first, named-second, named-third}
 use Rattle.sweep.proofs.join_all.Statement.{statement}
 use Rattle.sweep.proofs.join_all.Tie as tie
-
--- how many asks there are is known at each return
-abbrev counted : Asks → ℕ → List Ask
-counted r k = take k (r .first ∷ r .second ∷ r .third ∷ [])
 
 -- an operand within the list stays within it when an ask is joined
 kept-in : (list after : List ℕ) (x : Ask) (j : ℕ) → x .operand < length list → after ≡ joined list x → j < length list → j < length after
