@@ -21,6 +21,12 @@ static uint64_t trim_in_c(const struct lent *lent)
                       BYTES_OF(lent, 2));
 }
 
+static uint64_t trim_by_in_c(const struct lent *lent)
+{
+    return plain_trim_by(BYTES_OF(lent, 0), WORDS_OF(lent, 1),
+                         BYTES_OF(lent, 2));
+}
+
 static uint64_t start_in_c(const struct lent *lent)
 {
     return plain_start(BYTES_OF(lent, 0), WORDS_OF(lent, 1));
@@ -47,6 +53,14 @@ static const struct row rows[] = {
       { 64, 256, 1024, 2048 } },
     { "trim, combinational", &trim_operation, trim_in_c, combinational,
       { 64, 256, 1024, 2048 } },
+    { "trim_by, feedback, smallest masks", &trim_by_operation, trim_by_in_c,
+      feedback_smallest, { 64, 256, 1024, 2048 } },
+    { "trim_by, feedback, all bits", &trim_by_operation, trim_by_in_c,
+      feedback_all_bits, { 64, 256, 1024, 2048 } },
+    { "trim_by, combinational, smallest masks", &trim_by_operation,
+      trim_by_in_c, combinational_smallest, { 64, 256, 1024, 2048 } },
+    { "trim_by, combinational, all bits", &trim_by_operation, trim_by_in_c,
+      combinational_all_bits, { 64, 256, 1024, 2048 } },
     { "cycle, no multipliers", &cycle_operation, cycle_in_c, clocked,
       { 64, 256, 1024, 2048 } },
     { "cycle, all kinds", &cycle_operation, cycle_in_c, clocked_with_mul,

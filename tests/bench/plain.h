@@ -16,6 +16,14 @@ uint64_t plain_trim(const uint8_t *file, size_t length, uint8_t *masks,
                     size_t masks_length, uint8_t *destination,
                     size_t destination_length);
 
+uint64_t plain_trim_by(const uint8_t *file, size_t length,
+                       const uint64_t *masks, size_t masks_words,
+                       uint8_t *destination, size_t destination_length);
+
+/* The record of refusal 14, for a list that is refused. */
+uint32_t list_fault(const uint8_t *file, uint32_t count,
+                    const uint64_t *masks);
+
 uint64_t plain_start(const uint8_t *file, size_t length, uint64_t *board,
                      size_t board_words);
 

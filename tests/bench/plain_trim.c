@@ -1,14 +1,9 @@
 /* The masks by whole sweeps, a copy of the file, and then the keep words.
    Assumes a little-endian machine and gcc, as the benchmark does. */
 
-#include <string.h>
-
 #include "../model/model.h"
-#include "../model/record.h"
-#include "load.h"
 #include "plain.h"
-
-enum { KEEP_AT = 16 };
+#include "plain_write.h"
 
 /* The refusal of a call whose destination has another length than the file;
    those of the file and of the mask list go before it. */
@@ -27,18 +22,12 @@ uint64_t plain_trim(const uint8_t *restrict file, size_t length,
                     uint8_t *restrict destination, size_t destination_length)
 {
     uint64_t answer;
-    size_t i;
 
     if (destination_length != length)
         return misfit(file, length, masks_length);
     answer = plain_masks(file, length, masks, masks_length);
     if (answer >> 63)
         return answer;
-    memcpy(destination, file, length);
-    for (i = 0; i < masks_length; i += 8) {
-        uint8_t *keep = destination + HEADER_BYTES + 3 * i + KEEP_AT;
-
-        store_64(keep, load_64(keep) & load_64(masks + i));
-    }
+    write_trimmed(file, length, masks, masks_length, destination);
     return answer;
 }

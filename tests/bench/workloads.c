@@ -7,9 +7,11 @@
 
 #include "../harness/designs.h"
 #include "../harness/lend.h"
+#include "../harness/lists.h"
 #include "../harness/styles.h"
+#include "../harness/words.h"
 
-enum { SEED = 7, MANY_WIDTHS = 56, NOISE = 0x55 };
+enum { SEED = 7, MANY_WIDTHS = 56, NOISE = 0x55, MASK_LIST = 1 };
 
 typedef uint64_t memory[PARAMETERS][LONGEST_FILE / 8];
 
@@ -120,6 +122,42 @@ void combinational(struct workload *work, uint32_t count)
 void cut_words(struct workload *work, uint32_t count)
 {
     styled(work, count, &styles[STYLE_CUT], 0);
+}
+
+/* Puts such a list in the place of the one that was prepared. No number is
+   drawn for it. */
+static void put_lists(struct workload *work, enum list_sort sort)
+{
+    struct rng rng = rng_for(SEED, 0);
+    uint32_t i;
+
+    for (i = 0; i < work->files; i++)
+        draw_list(&rng, work->lent[i].of[0].bytes,
+                  words_of(&work->lent[i], MASK_LIST), sort);
+}
+
+void feedback_smallest(struct workload *work, uint32_t count)
+{
+    feedback(work, count);
+    put_lists(work, SMALLEST);
+}
+
+void feedback_all_bits(struct workload *work, uint32_t count)
+{
+    feedback(work, count);
+    put_lists(work, ALL_BITS);
+}
+
+void combinational_smallest(struct workload *work, uint32_t count)
+{
+    combinational(work, count);
+    put_lists(work, SMALLEST);
+}
+
+void combinational_all_bits(struct workload *work, uint32_t count)
+{
+    combinational(work, count);
+    put_lists(work, ALL_BITS);
 }
 
 void clocked(struct workload *work, uint32_t count)

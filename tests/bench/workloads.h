@@ -29,6 +29,11 @@ workload_maker combinational; /* random designs without registers */
 workload_maker cut_words;     /* many ands and ors with a constant */
 workload_maker chain;         /* registers that each read the next one */
 
+/* The same designs for trimming by a list: it has the smallest masks, or all
+   bits of each width. */
+workload_maker feedback_smallest, feedback_all_bits;
+workload_maker combinational_smallest, combinational_all_bits;
+
 /* Random designs of many widths with inputs, registers and outputs: of all
    kinds but mul, or of all kinds. */
 workload_maker clocked;

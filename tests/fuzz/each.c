@@ -64,22 +64,21 @@ static uint64_t seen_call(const struct operation *operation,
 
 /* The designs of an accepted file, made to suit each other where there are
    several, with right lengths and what makes the call an accepted one. */
-static void right_call(const struct operation *operation, struct rng *rng,
-                       const struct subject *subject)
+static struct lent lend_right(const struct operation *operation,
+                              struct rng *rng, const struct subject *subject)
 {
     static struct netlist nets[FILES];
-    struct lent lent;
     unsigned i;
 
     for (i = 0; i < files_of(operation); i++)
         netlist_read(&nets[i], subject->files->bytes, subject->files->length);
     if (operation->arrange != NULL)
         operation->arrange(rng, nets);
-    lent = lend(operation, rng, nets);
-    seen_call(operation, subject, &lent);
+    return lend(operation, rng, nets);
 }
 
-/* As the input chooses; and as it should be, unless that was the same. */
+/* As the input chooses; and as it should be, unless that was the same. Where
+   words and numbers can be refused, a few of those are spoilt afterwards. */
 static uint64_t try_operation(const struct operation *operation,
                               const struct subject *subject)
 {
@@ -88,8 +87,15 @@ static uint64_t try_operation(const struct operation *operation,
     int all_right = choose_lists(subject->control, operation, &lent);
     uint64_t answer = seen_call(operation, subject, &lent);
 
-    if (subject->accepted && (!all_right || operation->prepare != NULL))
-        right_call(operation, &rng, subject);
+    if (subject->accepted && (!all_right || operation->prepare != NULL)) {
+        lent = lend_right(operation, &rng, subject);
+        seen_call(operation, subject, &lent);
+    }
+    if (subject->accepted && operation->prepare != NULL) {
+        lent = lend_right(operation, &rng, subject);
+        lend_spoilt(operation, &rng, &lent);
+        seen_call(operation, subject, &lent);
+    }
     return answer;
 }
 

@@ -7,6 +7,7 @@
 #include <string.h>
 
 #include "../../include/pcn.h"
+#include "../harness/lists.h"
 #include "../harness/operations.h"
 #include "../harness/words.h"
 #include "../runs/scramble.h"
@@ -14,7 +15,7 @@
 #include "fault.h"
 #include "seen.h"
 
-enum { BOARD_FILL = 200, NEXT_FILL = 300 };
+enum { BOARD_FILL = 200, NEXT_FILL = 300, MASK_FILL = 400 };
 
 enum { BOARD_LENGTH = 2, NEXT_LENGTH = 3 };
 
@@ -74,7 +75,21 @@ static void put_both(struct rng *rng, uint32_t number, uint64_t word,
     two[number] = wide | alike(rng, word & ~wide, masks[number], width);
 }
 
-/* The masks and the trimmed file, which the second run is of. */
+/* A list that meets the rules in place of the smallest masks, and the file
+   that is trimmed by it. */
+static void trim_by_list(const struct file *file)
+{
+    struct rng rng = rng_for(design->control->seed, MASK_FILL);
+
+    draw_list(&rng, file->bytes, masks,
+              (enum list_sort)rng_below(&rng, LIST_SORTS));
+    if (PCN_REFUSED(pcn_trim_by(file->bytes, file->length, masks,
+                                design->count, trimmed, file->length)))
+        fault("trim_by", "a list that meets the rules is refused");
+}
+
+/* The masks and the trimmed file, which the second run is of; of every second
+   seed they are by a list. */
 static void trim_design(void)
 {
     struct file *file = design->files;
@@ -87,6 +102,8 @@ static void trim_design(void)
              trimmed, file->length);
     seen_masks(file->bytes, masks,
                memcmp(trimmed, file->bytes, file->length) != 0);
+    if (design->control->seed % 2 == 1)
+        trim_by_list(file);
 }
 
 /* The first board lists: equal in the cared bits of the registers, and any

@@ -7,8 +7,8 @@
 #include "parts.h"
 #include "report.h"
 
-/* SMALL: designs with one record, and as many with two. */
-enum { MOST_BITS = 8, SMALL = 700 };
+/* Designs with one record, and as many with two. */
+enum { SMALL = 700 };
 
 const struct operation *tried;
 struct netlist case_nets[FILES];
@@ -33,31 +33,6 @@ struct lent make_case(struct rng *rng, uint32_t count, unsigned turn)
     if (tried->arrange != NULL)
         tried->arrange(rng, case_nets);
     return lend(tried, rng, case_nets);
-}
-
-static void change_bits(struct rng *rng, const struct argument *list)
-{
-    uint32_t bits = rng_between(rng, 1, MOST_BITS);
-
-    while (list->length > 0 && bits-- > 0)
-        list->bytes[rng_below(rng, (uint32_t)list->length)]
-            ^= (uint8_t)(1u << rng_below(rng, 8));
-}
-
-void spoil_case(struct rng *rng, struct lent *lent)
-{
-    unsigned i;
-
-    for (i = 0; i < parameters_of(tried); i++) {
-        enum sort sort = tried->parameters[i].sort;
-
-        if ((sort & READ) == 0 || rng_once_in(rng, 3))
-            continue;
-        if (sort == A_NUMBER || rng_once_in(rng, 2))
-            lend_anew(tried, rng, lent, i);
-        else
-            change_bits(rng, &lent->of[i]);
-    }
 }
 
 void try_accepted(const struct lent *lent)
@@ -102,7 +77,7 @@ void spoilt_words(struct rng *rng, unsigned turn)
 {
     struct lent lent = make_case(rng, design_count(rng, 1), turn);
 
-    spoil_case(rng, &lent);
+    lend_spoilt(tried, rng, &lent);
     try_call(tried, &lent);
 }
 

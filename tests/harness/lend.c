@@ -11,6 +11,8 @@
 /* What a file without a header is taken for. */
 enum { RECORDS_OF_NONE = 3 };
 
+enum { MOST_BITS = 8 };
+
 /* Words, so that lists of words are aligned as they must be. */
 static uint64_t memory[PARAMETERS][FILE_ROOM / 8];
 
@@ -93,6 +95,32 @@ void lend_anew(const struct operation *operation, struct rng *rng,
     argument->length = is_measured(drawn)
         ? right_length(operation, lent, parameter) : any_length(rng);
     rng_fill(rng, argument->bytes, argument->length);
+}
+
+static void change_bits(struct rng *rng, const struct argument *list)
+{
+    uint32_t bits = rng_once_in(rng, 2) ? 1 : rng_between(rng, 2, MOST_BITS);
+
+    while (list->length > 0 && bits-- > 0)
+        list->bytes[rng_below(rng, (uint32_t)list->length)]
+            ^= (uint8_t)(1u << rng_below(rng, 8));
+}
+
+void lend_spoilt(const struct operation *operation, struct rng *rng,
+                 struct lent *lent)
+{
+    unsigned i;
+
+    for (i = 0; i < parameters_of(operation); i++) {
+        enum sort sort = operation->parameters[i].sort;
+
+        if ((sort & READ) == 0 || rng_once_in(rng, 3))
+            continue;
+        if (sort == A_NUMBER || rng_once_in(rng, 2))
+            lend_anew(operation, rng, lent, i);
+        else
+            change_bits(rng, &lent->of[i]);
+    }
 }
 
 struct lent lend_files(const struct operation *operation, struct rng *rng,

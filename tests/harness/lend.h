@@ -36,4 +36,9 @@ struct lent lend_files(const struct operation *operation, struct rng *rng,
 void lend_anew(const struct operation *operation, struct rng *rng,
                struct lent *lent, unsigned parameter);
 
+/* Draws some of what is read anew, a list as a whole, or changes a bit of it
+   or a few. */
+void lend_spoilt(const struct operation *operation, struct rng *rng,
+                 struct lent *lent);
+
 #endif

@@ -90,7 +90,7 @@ static void try_two(struct rng *rng, const unsigned *lists, size_t one,
     int spoilt = tried->prepare != NULL && rng_once_in(rng, 2);
 
     if (spoilt)
-        spoil_case(rng, &lent);
+        lend_spoilt(tried, rng, &lent);
     set_length(rng, &lent, lists[0], one);
     set_length(rng, &lent, lists[1], other);
     if (spoilt)

@@ -83,8 +83,8 @@ struct parameter {
 #define REFUSAL(number) ((uint64_t)1 << (number))
 #define REFUSALS_TO(last) ((REFUSAL(last) - 1) * 2)
 
-/* What is wrong with an accepted call in the words of the paper, or null; no
-   model is asked. */
+/* What is wrong with a call in the words of the paper, or null; no model is
+   asked. */
 typedef const char *judgement(const struct lent *before,
                               const struct lent *after, uint64_t answer);
 
@@ -105,8 +105,9 @@ struct operation {
     void (*prepare)(struct rng *rng, const struct netlist *nets,
                     struct lent *lent);
 
-    /* Null: no judge. */
+    /* Of accepted calls, and of refused ones. Null: no judge. */
     judgement *judge;
+    judgement *judge_refused;
 };
 
 #endif

@@ -20,9 +20,6 @@ enum { ALL_ALIKE = STYLES };
 
 struct lent make_case(struct rng *rng, uint32_t count, unsigned turn);
 
-/* Draws some of what is read anew, a list as a whole or in a few bits. */
-void spoil_case(struct rng *rng, struct lent *lent);
-
 /* Gives about half of the lists that have a right length another one. */
 void draw_lengths(struct rng *rng, struct lent *lent);
 

@@ -169,10 +169,11 @@ static void describe(const struct operation *operation,
 static void conclude(const struct operation *operation,
                      const struct lent *lent, struct verdict *verdict)
 {
-    if (verdict->fault == NULL && operation->judge != NULL
-        && !PCN_REFUSED(verdict->library))
-        verdict->fault = operation->judge(lent, &verdict->left,
-                                          verdict->library);
+    judgement *judge = PCN_REFUSED(verdict->library)
+        ? operation->judge_refused : operation->judge;
+
+    if (verdict->fault == NULL && judge != NULL)
+        verdict->fault = judge(lent, &verdict->left, verdict->library);
     if (verdict->fault != NULL && test_fail())
         describe(operation, lent, verdict);
     counts_of(operation)[PCN_REFUSED(verdict->model)

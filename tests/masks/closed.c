@@ -1,5 +1,7 @@
-/* Works out the least masks by the care rules of 01, one bit of D at a time.
-   Assumes an accepted file and a list of 8 bytes for each of its records. */
+/* Works out what the care rules of 01 call for, and so the least masks.
+   Assumes an accepted file, and a list with a word for each of its records. */
+
+#include "closed.h"
 
 #include <string.h>
 
@@ -131,20 +133,33 @@ static void ask_for_bit(const uint8_t *file, const struct record *record,
     }
 }
 
-/* An output has all its bits. What D asks for was asked before but for its new
-   bits. */
+/* An output has all its bits. */
+static void ask_for_itself(const struct record *record, uint32_t number)
+{
+    if (record->kind == KIND_OUTPUT)
+        ask(number, 0, record->width - 1u);
+}
+
+/* What these bits of D ask of the operands. */
+static void ask_for_bits(const uint8_t *file, const struct record *record,
+                         uint64_t d)
+{
+    unsigned bit;
+
+    for (bit = 0; bit < 64 && d >> bit != 0; bit++)
+        if (d >> bit & 1)
+            ask_for_bit(file, record, bit);
+}
+
+/* What D asks for was asked before but for its new bits. */
 static void ask_for_all(const uint8_t *file, uint32_t number)
 {
     struct record record = read_record(file, number);
-    unsigned bit;
     uint64_t d;
 
-    if (record.kind == KIND_OUTPUT)
-        ask(number, 0, record.width - 1u);
+    ask_for_itself(&record, number);
     d = asked[number] & record.keep & ~passed_on[number];
-    for (bit = 0; bit < 64 && d >> bit != 0; bit++)
-        if (d >> bit & 1)
-            ask_for_bit(file, &record, bit);
+    ask_for_bits(file, &record, d);
     passed_on[number] |= d;
 }
 
@@ -153,7 +168,6 @@ static void ask_all(const uint8_t *file, uint32_t count)
 {
     uint32_t i;
 
-    memset(asked, 0, 8 * (size_t)count);
     memset(passed_on, 0, 8 * (size_t)count);
     do {
         is_more = 0;
@@ -164,23 +178,62 @@ static void ask_all(const uint8_t *file, uint32_t count)
     } while (is_more);
 }
 
+void close_list(const uint8_t *file, uint64_t *list)
+{
+    uint32_t count = read_16(file + 6);
+
+    memcpy(asked, list, 8 * (size_t)count);
+    ask_all(file, count);
+    memcpy(list, asked, 8 * (size_t)count);
+}
+
+uint32_t lowest_fault(const uint8_t *file, const uint64_t *list)
+{
+    uint32_t count = read_16(file + 6), i;
+
+    memset(asked, 0, 8 * (size_t)count);
+    for (i = 0; i < count; i++) {
+        struct record record = read_record(file, i);
+
+        ask_for_itself(&record, i);
+        ask_for_bits(file, &record, list[i] & record.keep);
+    }
+    for (i = 0; i < count; i++) {
+        unsigned width = width_at(file, i);
+
+        if ((list[i] | asked[i]) != list[i]
+            || (width < 64 && list[i] >> width != 0))
+            break;
+    }
+    return i;
+}
+
+uint64_t tally_of(const uint8_t *file, const uint64_t *list)
+{
+    uint32_t count = read_16(file + 6), i;
+    uint64_t tally = 0, mask;
+
+    for (i = 0; i < count; i++) {
+        tally += 0x100000000u * (uint64_t)width_at(file, i);
+        for (mask = list[i]; mask != 0; mask &= mask - 1)
+            tally++;
+    }
+    return tally;
+}
+
 /* A mask that is not the least one, or a tally that is not the count. */
 const char *judge_masks(const struct lent *before, const struct lent *after,
                         uint64_t answer)
 {
     const uint8_t *file = before->of[0].bytes, *list = after->of[1].bytes;
+    static uint64_t least[COUNT_LIMIT];
     uint32_t count = read_16(file + 6), i;
-    uint64_t tally = 0;
 
-    ask_all(file, count);
-    for (i = 0; i < count; i++) {
-        uint64_t mask = read_64(list + 8 * (size_t)i);
-
-        if (mask != asked[i])
+    memset(least, 0, 8 * (size_t)count);
+    close_list(file, least);
+    for (i = 0; i < count; i++)
+        if (read_64(list + 8 * (size_t)i) != least[i])
             return "a mask is not what the care rules ask for";
-        tally += 0x100000000u * (uint64_t)width_at(file, i);
-        for (; mask != 0; mask &= mask - 1)
-            tally++;
-    }
-    return answer == tally ? NULL : "the tally does not count widths and ones";
+    return answer == tally_of(file, least) ? NULL
+        : "the tally does not count widths and ones";
 }

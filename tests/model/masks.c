@@ -1,6 +1,7 @@
 /* The plain model's care masks, worked out with a list of waiting records.
    Assumes a mask list of its own memory, apart from the file. */
 
+#include "care.h"
 #include "model.h"
 #include "record.h"
 
@@ -182,6 +183,24 @@ static void work_off(struct work *work, const uint8_t *file)
     }
 }
 
+/* Each record asks once, with its D in the list. The masks in `work` take what
+   is asked, and nobody asks again with these. */
+void model_called_for(const uint8_t *file, uint32_t count,
+                      const uint64_t *masks, uint64_t *called)
+{
+    struct work work;
+    uint32_t i;
+
+    begin(&work, file, count);
+    for (i = 0; i < count; i++) {
+        struct record record = read_record(file, i);
+
+        ask_operands(&work, file, &record, masks[i] & record.keep);
+    }
+    for (i = 0; i < count; i++)
+        called[i] = work.mask[i];
+}
+
 static uint32_t ones(uint64_t bits)
 {
     uint32_t count = 0;
@@ -191,11 +210,23 @@ static uint32_t ones(uint64_t bits)
     return count;
 }
 
+uint64_t model_tally(const uint8_t *file, uint32_t count,
+                     const uint64_t *masks)
+{
+    uint64_t widths = 0, cared = 0;
+    uint32_t i;
+
+    for (i = 0; i < count; i++) {
+        widths += width_at(file, i);
+        cared += ones(masks[i]);
+    }
+    return (widths << 32) + cared;
+}
+
 uint64_t model_masks(const uint8_t *file, size_t length, uint8_t *masks,
                      size_t masks_length)
 {
     uint64_t answer = model_check(file, length);
-    uint64_t widths = 0, cared = 0;
     struct work work;
     uint32_t count, i;
 
@@ -206,10 +237,7 @@ uint64_t model_masks(const uint8_t *file, size_t length, uint8_t *masks,
         return model_refused(11, 0);
     begin(&work, file, count);
     work_off(&work, file);
-    for (i = 0; i < count; i++) {
+    for (i = 0; i < count; i++)
         write_64(masks + 8 * (size_t)i, work.mask[i]);
-        widths += width_at(file, i);
-        cared += ones(work.mask[i]);
-    }
-    return (widths << 32) + cared;
+    return model_tally(file, count, work.mask);
 }

@@ -27,6 +27,13 @@ uint64_t model_trim(const uint8_t *file, size_t length, uint8_t *masks,
                     size_t masks_length, uint8_t *destination,
                     size_t destination_length);
 
+/* Writes the file with each keep word cut to the mask of the list, which is
+   only read, and gives the tally of the list; refused, it leaves the
+   destination as it was. */
+uint64_t model_trim_by(const uint8_t *file, size_t length,
+                       const uint64_t *masks, size_t masks_words,
+                       uint8_t *destination, size_t destination_length);
+
 /* Writes the reset states into the board list; accepted, it gives 0. Refused,
    it leaves the list as it was. */
 uint64_t model_start(const uint8_t *file, size_t length, uint64_t *board,

@@ -12,23 +12,50 @@ const char *const sort_names[SORTS] = {
     "trimmed file, scrambled"
 };
 
-void trim_netlist(struct masked *masked)
+static void note_trimmed(struct masked *masked)
 {
     const struct netlist *net = &masked->net;
-    struct file *file = &masked->file, *trimmed = &masked->trimmed;
     uint32_t i;
 
-    netlist_write(net, file);
-    trimmed->length = file->length;
-    demand_answer(pcn_trim(file->bytes, file->length,
-                           (uint8_t *)masked->masks, 8 * (size_t)net->count,
-                           trimmed->bytes, trimmed->length) >> 63, 0);
     masked->registers = masked->cut = 0;
     for (i = 0; i < net->count; i++) {
         masked->registers += net->records[i].kind == KIND_REGISTER;
-        masked->cut += read_record(trimmed->bytes, i).keep
+        masked->cut += read_record(masked->trimmed.bytes, i).keep
                     != net->records[i].keep;
     }
+}
+
+/* In one step, which finds the smallest masks. */
+static void trim_at_once(struct masked *masked)
+{
+    struct file *file = &masked->file, *trimmed = &masked->trimmed;
+
+    netlist_write(&masked->net, file);
+    trimmed->length = file->length;
+    demand_answer(pcn_trim(file->bytes, file->length,
+                           (uint8_t *)masked->smallest,
+                           8 * (size_t)masked->net.count, trimmed->bytes,
+                           trimmed->length) >> 63, 0);
+}
+
+void trim_netlist(struct masked *masked)
+{
+    trim_at_once(masked);
+    memcpy(masked->masks, masked->smallest, sizeof masked->masks);
+    masked->by_list = 0;
+    note_trimmed(masked);
+}
+
+void trim_netlist_by_list(struct masked *masked)
+{
+    struct file *file = &masked->file, *trimmed = &masked->trimmed;
+
+    trim_at_once(masked);
+    demand_answer(pcn_trim_by(file->bytes, file->length, masked->masks,
+                              masked->net.count, trimmed->bytes,
+                              trimmed->length) >> 63, 0);
+    masked->by_list = 1;
+    note_trimmed(masked);
 }
 
 uint64_t *run_board(const struct run *run)

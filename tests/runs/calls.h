@@ -8,17 +8,20 @@
 #include "scramble.h"
 
 /* A netlist, which its user fills, with its file, its masks and its trimmed
-   file. */
+   file. The masks are the smallest or, by a list, those that its user has put
+   there. */
 struct masked {
     struct netlist net;
     struct file file, trimmed;
-    uint64_t masks[COUNT_LIMIT];
+    uint64_t masks[COUNT_LIMIT], smallest[COUNT_LIMIT];
+    int by_list;
     uint32_t registers;
     uint32_t cut; /* keep words that the trimming changed */
 };
 
 /* Writes the file and has the library trim it, which it must not refuse. */
 void trim_netlist(struct masked *masked);
+void trim_netlist_by_list(struct masked *masked);
 
 /* The second runs of 01: of the same file or of the trimmed one, plain or
    scrambled. The first run is of sort 0. */

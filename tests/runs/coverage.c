@@ -9,8 +9,9 @@
 
 enum { LEAST_SCRAMBLED = 200, LEAST_PAIRS = 5000 };
 
-static struct facts facts[SORTS];
-static unsigned long pairs[SORTS], scrambled[KIND_COUNT];
+/* By the smallest masks, and by lists. */
+static struct facts facts[2][SORTS];
+static unsigned long pairs[2][SORTS], scrambled[2][KIND_COUNT];
 
 static unsigned long sum(const unsigned long *counts, unsigned many)
 {
@@ -39,10 +40,11 @@ void runs_note_pair(const struct masked *masked, unsigned sort,
         { "first run refused by 11", "by 12", "by 12 for its first state" },
         { "second run refused by 11", "by 12", "by 12 for its first state" }
     };
-    struct facts *f = &facts[sort];
+    int by_list = masked->by_list;
+    struct facts *f = &facts[by_list][sort];
     unsigned i;
 
-    pairs[sort]++;
+    pairs[by_list][sort]++;
     f->many = 0;
     for (i = 0; i < MET_BITS; i++)
         fact(f, met_names[i], met >> i & 1);
@@ -61,31 +63,48 @@ void runs_note_pair(const struct masked *masked, unsigned sort,
     if (sort & SCRAMBLED)
         fact(f, "scrambling changed a value",
              sum(second->scrambler.changed, KIND_COUNT) > 0);
+    if (by_list)
+        fact(f, "a bit outside the smallest masks was 1, and in the list",
+             (met & MORE_NOT_ZERO) != 0);
     for (i = 0; i < KIND_COUNT; i++)
-        scrambled[i] += second->scrambler.changed[i];
+        scrambled[by_list][i] += second->scrambler.changed[i];
 }
 
 /* An output's mask is full, so there is nothing to scramble in it. */
-void runs_coverage(void)
+static void judge_scrambled(int by_list)
 {
-    char name[100];
     unsigned i;
 
-    for (i = 0; i < SORTS; i++) {
-        sprintf(name, "coverage: pairs with the %s", sort_names[i]);
-        judge_facts(name, &facts[i]);
-    }
-    test_begin("coverage: enough pairs, every kind scrambled but for outputs");
-    printf("      pairs %lu, kinds", sum(pairs, SORTS));
+    test_begin(by_list
+               ? "coverage: by lists, enough pairs, every kind scrambled"
+               : "coverage: enough pairs, every kind scrambled but for"
+                 " outputs");
+    printf("      pairs %lu, kinds", sum(pairs[by_list], SORTS));
     for (i = 0; i < KIND_COUNT; i++) {
-        printf(" %lu", scrambled[i]);
-        if (i == KIND_OUTPUT ? scrambled[i] != 0
-                             : scrambled[i] < LEAST_SCRAMBLED)
+        printf(" %lu", scrambled[by_list][i]);
+        if (i == KIND_OUTPUT ? scrambled[by_list][i] != 0
+                             : scrambled[by_list][i] < LEAST_SCRAMBLED)
             test_fail();
     }
     printf("\n");
     for (i = 0; i < SORTS; i++)
-        if (pairs[i] < LEAST_PAIRS)
+        if (pairs[by_list][i] < LEAST_PAIRS)
             test_fail();
     test_end();
+}
+
+void runs_coverage(void)
+{
+    char name[100];
+    unsigned i;
+    int by_list;
+
+    for (by_list = 0; by_list < 2; by_list++) {
+        for (i = 0; i < SORTS; i++) {
+            sprintf(name, "coverage: %spairs with the %s",
+                    by_list ? "by lists, " : "", sort_names[i]);
+            judge_facts(name, &facts[by_list][i]);
+        }
+        judge_scrambled(by_list);
+    }
 }

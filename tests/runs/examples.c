@@ -13,16 +13,28 @@ static struct masked masked;
 static struct run run;
 static unsigned sort;
 
-/* Runs the design, which is made already, as each sort of second run. */
-static void each_sort(const char *name, void (*attempt)(void))
+/* Runs the design, which is made already, as each sort of second run, trimmed
+   to the smallest masks, or by a list if there is one. */
+static void each_sort_by(const char *name, const uint64_t *list,
+                         void (*attempt)(void))
 {
     test_begin(name);
-    trim_netlist(&masked);
+    if (list == NULL) {
+        trim_netlist(&masked);
+    } else {
+        memcpy(masked.masks, list, 8 * (size_t)masked.net.count);
+        trim_netlist_by_list(&masked);
+    }
     for (sort = 0; sort < SORTS; sort++) {
         run_begin(&run, &masked, sort, rng_for(40, sort));
         attempt();
     }
     test_end();
+}
+
+static void each_sort(const char *name, void (*attempt)(void))
+{
+    each_sort_by(name, NULL, attempt);
 }
 
 /* A cycle with these words, and the value that a signal must then have. */
@@ -80,6 +92,45 @@ static void unread_counter(void)
     run_start(&run);
     for (i = 0; i < 6 && !(sort & SCRAMBLED); i++)
         cycle(NULL, i % 2 ? 0 : 2, sort & TRIMMED ? 0 : i % 2 ? i : i + 1);
+}
+
+/* A cycle with these words, and what a signal must have in its mask. The plain
+   run of the trimmed file has nothing else. */
+static void cared_cycle(const uint64_t *words, uint32_t number,
+                        uint64_t right)
+{
+    uint64_t value;
+
+    run_cycle(&run, words);
+    value = run_values(&run)[number];
+    if ((value & masked.masks[number]) != right
+        || (sort == TRIMMED && value != right))
+        test_fail();
+}
+
+/* The same counter by a list that has its low four bits, which it counts. */
+static void kept_counter(void)
+{
+    uint64_t i;
+
+    run_start(&run);
+    for (i = 0; i < 40; i++)
+        cared_cycle(NULL, 2, (i + 1) & 0x0f);
+}
+
+/* The ramp by a list with bit 16 of the sum, which is hex a13b8605: the words
+   are the same but for bits above that. */
+static void wider_ramp(void)
+{
+    static const uint64_t words[2][3] = {
+        { 100000, 70000, 5 }, { 0xdead86a0u, 0xbeef1170u, 0x77760005u }
+    };
+    unsigned i;
+
+    for (i = 0; i < 4; i++) {
+        cared_cycle(words[i % 2], 4, 0x18605);
+        cared_cycle(words[i % 2], 6, 0x8605);
+    }
 }
 
 /* What goes in comes out four cycles later, however many calls are refused
@@ -183,6 +234,15 @@ static void make_cut_status(struct netlist *net)
     netlist_output(net, 4, 0xff);
 }
 
+static void make_cleared_bits(struct netlist *net)
+{
+    netlist_clear(net);
+    netlist_input(net, 8);
+    netlist_add(net, KIND_REGISTER, 8, 0, 0, 0, 0xab);
+    net->records[1].keep = 0x0f;
+    netlist_output(net, 1, 0xff);
+}
+
 static void make_dead_mode(struct netlist *net)
 {
     netlist_clear(net);
@@ -211,20 +271,24 @@ static void make_signed_angle(struct netlist *net)
 
 void runs_examples(void)
 {
+    static const uint64_t low_four[] = { 0x0f, 0x0f, 0x0f };
+    static const uint64_t to_bit_16[] = {
+        0x1ffff, 0x1ffff, 0x1ffff, 0x1ffff, 0x1ffff, 0xffff, 0xffff
+    };
     struct netlist *net = &masked.net;
 
     example_ramp(net, 16, 0);
     each_sort("runs: ramp, inputs that differ above bit 15", ramp);
-    netlist_clear(net);
-    netlist_input(net, 8);
-    netlist_add(net, KIND_REGISTER, 8, 0, 0, 0, 0xab);
-    net->records[1].keep = 0x0f;
-    netlist_output(net, 1, 0xff);
+    each_sort_by("runs: ramp by a list with bit 16, inputs differ above it",
+                 to_bit_16, wider_ramp);
+    make_cleared_bits(net);
     each_sort("runs: states that differ in bits which the register clears",
               cleared_bits);
     example_counter(net);
     each_sort("runs: a counter that nobody reads, whole and trimmed",
               unread_counter);
+    each_sort_by("runs: the same counter by a list that keeps four bits",
+                 low_four, kept_counter);
     example_shift_chain(net);
     each_sort("runs: shift chain, refused calls are no cycles",
               refused_calls);

@@ -145,6 +145,7 @@ static void compare(unsigned sort)
         met[sort] |= one != two ? VALUE_DIFFERED : 0;
         met[sort] |= is_output && one != 0 ? OUTPUT_NOT_ZERO : 0;
         met[sort] |= selector_differed(sort, i) ? SELECTOR_DIFFERED : 0;
+        met[sort] |= one & mask & ~masked->smallest[i] ? MORE_NOT_ZERO : 0;
         met[sort] |= cut_met(sort, i);
         if (((one ^ two) & mask) == 0 && (!is_output || one == two)
             && (sort != TRIMMED || (two & ~mask) == 0))

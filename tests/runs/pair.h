@@ -25,8 +25,9 @@ enum {
     CUT_BITS_DIFFERED = 256, /* those that an and or an or with a constant
                                 does away with, though they are in its D */
     MET_BITS = 9,
-    CONSTANT_DIFFERED = 512  /* beside such bits; only where a value may be
+    CONSTANT_DIFFERED = 512, /* beside such bits; only where a value may be
                                 another than the file's */
+    MORE_NOT_ZERO = 1024     /* a bit that only a wider list cares for */
 };
 
 /* Notes a pair that has ended, and judges at the end whether the pairs met

@@ -2,6 +2,7 @@
    Assumes that design number i depends only on the seed and on i. */
 
 #include "../harness/designs.h"
+#include "../harness/lists.h"
 #include "../harness/report.h"
 #include "../harness/styles.h"
 #include "pair.h"
@@ -13,25 +14,34 @@ enum { FIRST = 8000000 /* apart from the numbers of other tests */ };
    with a register more than the last. */
 enum design { BY_TURN, CUT_WORDS, CHAINS };
 
-/* Counts from the least to the most, or any; calls by the count, or so
-   many. */
+/* Counts from the least to the most, or any; calls by the count, or so many;
+   trimmed to the smallest masks or by a list, mostly with more bits. */
 static const struct batch {
     const char *name;
     uint32_t designs, least, most;
     unsigned calls;
     enum design design;
+    int by_list;
 } batches[] = {
-    { "generated: pairs: designs of all sizes", 6750, 0, 0, 0, BY_TURN },
+    { "generated: pairs: designs of all sizes", 6750, 0, 0, 0, BY_TURN, 0 },
     { "generated: pairs: designs with 0 to 6 records", 1400, 0, 6, 0,
-      BY_TURN },
+      BY_TURN, 0 },
     { "generated: pairs: designs with 2,048 records", 42, 2048, 2048, 0,
-      BY_TURN },
+      BY_TURN, 0 },
     { "generated: pairs: 1,000 calls, most of them cycles", 42, 5, 60, 1000,
-      BY_TURN },
+      BY_TURN, 0 },
     { "generated: pairs: words cut with constants", 3000, 4, 80, 0,
-      CUT_WORDS },
+      CUT_WORDS, 0 },
     { "generated: pairs: chains of 1 to 80 registers, run through", 80, 0, 0,
-      0, CHAINS }
+      0, CHAINS, 0 },
+    { "generated: pairs by lists: designs with 1 to 100 records", 7200, 1, 100,
+      0, BY_TURN, 1 },
+    { "generated: pairs by lists: designs with 2,048 records", 9, 2048, 2048,
+      0, BY_TURN, 1 },
+    { "generated: pairs by lists: words cut with constants", 4500, 4, 80, 0,
+      CUT_WORDS, 1 },
+    { "generated: pairs by lists: chains of 1 to 40 registers, run through",
+      40, 0, 0, 0, CHAINS, 1 }
 };
 
 static struct masked masked;
@@ -90,6 +100,18 @@ static void make_design(struct rng *rng, const struct batch *batch, uint32_t i)
                        batch->design == CUT_WORDS ? STYLE_CUT : i);
 }
 
+static void trim_design(struct rng *rng, const struct batch *batch)
+{
+    if (!batch->by_list) {
+        trim_netlist(&masked);
+        return;
+    }
+    netlist_write(&masked.net, &masked.file);
+    draw_list(rng, masked.file.bytes, masked.masks,
+              (enum list_sort)rng_below(rng, ALL_BITS));
+    trim_netlist_by_list(&masked);
+}
+
 void runs_pairs(uint64_t seed)
 {
     unsigned long made = FIRST;
@@ -101,7 +123,7 @@ void runs_pairs(uint64_t seed)
             struct rng rng = rng_for(seed, made++);
 
             make_design(&rng, &batches[j], i);
-            trim_netlist(&masked);
+            trim_design(&rng, &batches[j]);
             try_pairs(&masked, &rng, calls_for(&rng, &batches[j]));
         }
         test_end();

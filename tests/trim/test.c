@@ -1,18 +1,15 @@
-/* The test program for trim: the examples of 01, and keep words of all sorts.
+/* The test program for trimming: examples of 01, keep words, and given lists.
    Assumes that the judge looks at every byte; masks/grid.c tries every bit. */
 
-#include <inttypes.h>
 #include <stdio.h>
-#include <string.h>
 
-#include "../../include/pcn.h"
 #include "../harness/examples.h"
 #include "../harness/operations.h"
 #include "../harness/options.h"
 #include "../harness/report.h"
 #include "../harness/trial.h"
-
-enum { LIST_BYTES = 8 * 7 };
+#include "by_list.h"
+#include "parts.h"
 
 /* Designs and the keep words that they are trimmed to. */
 static const struct worked worked[] = {
@@ -51,52 +48,12 @@ static const struct worked worked[] = {
       { 0x0f, 0x0f, 8, 8 } }
 };
 
-/* Nothing was written, or all: of each record, bytes 18 to 23 are cleared. */
-static void demand_left(int done, const uint8_t *list,
-                        const uint8_t *destination)
+/* Accepted with these masks, in one step, and in two by these as a list. */
+static void expect_in_steps(const struct operation *operation,
+                            const struct netlist *net, const uint64_t *masks)
 {
-    size_t i;
-
-    for (i = 0; i < LIST_BYTES; i++)
-        if (list[i] != (!done ? 0x99 : i % 8 < 2 ? 255 : 0))
-            test_fail();
-    for (i = 0; i < RAMP_BYTES; i++)
-        if (destination[i] != (!done ? 0x99
-                               : i >= 8 && (i - 8) % 24 >= 18 ? 0
-                               : ramp_bytes[i]))
-            test_fail();
-    if (destination[RAMP_BYTES] != 0x99)
-        test_fail();
-}
-
-/* The ramp with a width of 0, a kind that there is not and an operand too many
-   in three of its records, a list that is too short and a destination that is
-   too long. All is written out, so that a slip in the tests' own reader and
-   writer shows. */
-static void one_by_one(void)
-{
-    static const uint8_t faults[3][2] = { { 33, 0 }, { 80, 19 }, { 132, 1 } };
-    static const uint64_t answers[] = {
-        0x8000000700000001u, 0x8000000600000003u, 0x8000000a00000005u,
-        0x8000000b00000000u, 0x8000000d00000000u, 0x000000c000000070u
-    };
-    uint8_t file[RAMP_BYTES], list[LIST_BYTES], destination[RAMP_BYTES + 1];
-    unsigned mended, i;
-
-    test_begin("example: ramp byte by byte, its five faults mended in turn");
-    memset(list, 0x99, sizeof list);
-    memset(destination, 0x99, sizeof destination);
-    for (mended = 0; mended <= 5; mended++) {
-        memcpy(file, ramp_bytes, RAMP_BYTES);
-        for (i = mended; i < 3; i++)
-            file[faults[i][0]] = faults[i][1];
-        demand_answer(pcn_trim(file, RAMP_BYTES, list,
-                               LIST_BYTES - (mended < 4), destination,
-                               RAMP_BYTES + (mended < 5)),
-                      answers[mended]);
-        demand_left(mended == 5, list, destination);
-    }
-    test_end();
+    expect_masks(operation, net, masks);
+    expect_accepted(net, masks);
 }
 
 /* Accepted with these keep words in the destination. */
@@ -104,25 +61,22 @@ static void expect_keeps(const struct operation *operation,
                          const struct netlist *net, const uint64_t *keeps)
 {
     struct known known = known_call(operation, net);
-    uint32_t i;
 
-    demand_answer(known.answer >> 63, 0);
-    for (i = 0; i < net->count; i++) {
-        uint64_t keep = read_record(known.lent.of[2].bytes, i).keep;
-
-        if (keep != keeps[i] && test_fail())
-            printf("      keep word %" PRIu32 " is %016" PRIx64
-                   " instead of %016" PRIx64 "\n", i, keep, keeps[i]);
-    }
+    demand_keeps(&known, keeps, net->count);
 }
 
 int main(int argc, char **argv)
 {
-    options_begin(argc, argv);
-    one_by_one();
-    try_examples(&trim_operation, expect_masks);
+    uint64_t seed = options_begin(argc, argv);
+
+    trim_ramp();
+    try_examples(&trim_operation, expect_in_steps);
     try_worked(&trim_operation, worked, sizeof worked / sizeof *worked,
                expect_keeps);
+    trim_by_hand();
+    trim_by_wider(seed);
+    trim_by_spoilt(seed);
+    trim_by_places(seed);
     printf("%lu files tried\n", trials_made());
     return tests_end() ? 0 : 1;
 }

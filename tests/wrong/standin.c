@@ -50,6 +50,19 @@ uint64_t pcn_trim(const uint8_t *file, size_t length, uint8_t *masks,
     return answer;
 }
 
+uint64_t pcn_trim_by(const uint8_t *file, size_t length, const uint64_t *masks,
+                     size_t masks_words, uint8_t *destination,
+                     size_t destination_length)
+{
+    uint64_t answer;
+
+    trim_by_before
+    answer = model_trim_by(file, length, masks, masks_words, destination,
+                           destination_length);
+    trim_by_after
+    return answer;
+}
+
 uint64_t pcn_start(const uint8_t *file, size_t length, uint64_t *board,
                    size_t board_words)
 {
