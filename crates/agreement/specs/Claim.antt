@@ -60,7 +60,8 @@ RunsAgree file masks =
 abbrev pub TwoRuns : Type 0
 TwoRuns = (file : List ℕ) (n : ℕ) → checkOf file ≡ Accepted n → RunsAgree file (masksOf (designOf file))
 
--- #105: "For two runs, the accepted list then plays the part of the masks, and this file that of the trimmed one."
+-- #105: "For two runs, the accepted list then plays the part of the masks, and this file that of the trimmed one": the call leaves
+-- `trimmedBy file list` in its destination.
 abbrev pub GivenListRuns : Type 0
 GivenListRuns =
     (file list destination : List ℕ) (tally : Tally) → trimByCall file list destination .answer ≡ Done tally → RunsAgree file list

@@ -58,17 +58,10 @@ module _ (r : ℕ) (M N : ℕ → ℕ) where
   up-to-granted [] b g = tt
   up-to-granted (x ∷ xs) b g = (up-to-within (x .operand) (x .mask) (b .0) (g .0), up-to-granted xs (b .1) (g .1))
 
--- a record is not faulty just where neither test finds something
-none-of : {a b : Bool} → a ≡ false → b ≡ false → (a || b) ≡ false
-none-of p q = ap₂ _||_ p q
-
-or-left : (a b : Bool) → (a || b) ≡ false → a ≡ false
-or-left false b e = refl
-or-left true b e = e
-
-or-right : (a b : Bool) → (a || b) ≡ false → b ≡ false
-or-right false b e = e
-or-right true b e = absurd (let z : _≡_ {A = ℕ} 0 1 = cc in omega arith)
+-- where a record is not faulty, neither test finds something
+neither : (a b : Bool) → (a || b) ≡ false → (a ≡ false) × (b ≡ false)
+neither false b e = (refl, e)
+neither true b e = absurd (let z : _≡_ {A = ℕ} 0 1 = cc in omega arith)
 
 module _ (d : Design) (s : Sound d) (seed : ℕ → ℕ) (masks : List ℕ) where
   abbrev called : ℕ → ℕ
@@ -134,7 +127,7 @@ module _ (d : Design) (s : Sound d) (seed : ℕ → ℕ) (masks : List ℕ) wher
 
     pub clear-below : Clear (isFaulty d seed masks) r
     unfolding isFaulty
-    clear-below i h = none-of (within-not-exceeds (called-below i h)) (within-not-exceeds (narrow i h))
+    clear-below i h = ap₂ _||_ (within-not-exceeds (called-below i h)) (within-not-exceeds (narrow i h))
 
   -- #105: a list "lies within the widths and meets every care rule" just where no record is faulty
   pub closed-clear : Fits d masks → Closed d seed (maskAt masks) → Clear (isFaulty d seed masks) (d .count)
@@ -144,13 +137,13 @@ module _ (d : Design) (s : Sound d) (seed : ℕ → ℕ) (masks : List ℕ) wher
   module _ (clear : Clear (isFaulty d seed masks) (d .count)) (size : length masks ≡ d .count) where
     clear-within : (i : ℕ) → i < d .count → Within (called i) (maskAt masks i)
     unfolding isFaulty
-    clear-within i h = not-exceeds-within (called i) (maskAt masks i) (or-left _ _ (clear i h))
+    clear-within i h = not-exceeds-within (called i) (maskAt masks i) (neither _ _ (clear i h) .0)
 
     pub clear-fits : Fits d masks
     unfolding isFaulty
     clear-fits = record {
       size = size;
-      narrow = λ i h. not-exceeds-within (maskAt masks i) (lowMask (d .at i .width)) (or-right (exceeds (called i) (maskAt masks i)) _ (clear i h));
+      narrow = λ i h. not-exceeds-within (maskAt masks i) (lowMask (d .at i .width)) (neither (exceeds (called i) (maskAt masks i)) _ (clear i h) .1);
     }
 
     pub clear-closed : Closed d seed (maskAt masks)

@@ -1,17 +1,17 @@
 -- The search for the lowest record at fault: what stays true while it goes through the records, and what it comes to.
 -- Assumes nothing.
-use mathlib.Core.Path.{_≡_, refl, sym, ap, subst, _∙_}
+use mathlib.Core.Path.{_≡_, refl, ap, subst, _∙_}
 use mathlib.Core.Bool.{Bool, true, false}
 use mathlib.Core.Logic.{_⊎_, inl, inr}
 use mathlib.Core.List.{List, [], _∷_}
 use Prim.Native.Nat.{ℕ, _+_, _≤_, _<_, min}
-use native.Mathlib.Nat.{eq-or-lt-of-le, not-suc-le-zero}
+use native.Mathlib.Nat.{not-suc-le-zero}
 use native.Mathlib.Omega.{arith}
 use Rattle.bits.specs.Masks.{Within, exceeds}
 use Rattle.bits.specs.Words.{lowMask}
 use Rattle.bits.proofs.Order.{within-not-exceeds, not-exceeds-within}
 use Rattle.netlist.specs.Layout.{Design}
-use Rattle.netlist.proofs.LowestLaws.{Lowest}
+use Rattle.netlist.proofs.LowestLaws.{Lowest, below-next}
 use Rattle.rules.specs.Sound.{Sound}
 use Rattle.signal.specs.Asks.{ask, asked, Granted}
 use Rattle.signal.specs.declared.Ask.{Ask}
@@ -133,13 +133,6 @@ module _ (d : Design) (s : Sound d) (masks : List ℕ) where
         asks-faulty (ask i (outputSeed d i) ∷ xs) (lowerIf wide i low) (seed-called d s (outputSeed d) masks i h, asked-called d s (outputSeed d) masks i h)
         (lower-is Faulty wide i low (λ e g. wide-faulty d s (outputSeed d) masks i e) (w .faulty))
 
-    here-or-before : {P : ℕ → Type 0} → ((j : ℕ) → j < i → P j) → P i → (j : ℕ) → j < i + 1 → P j
-    here-or-before {P} before here j l = go (eq-or-lt-of-le (let k : j ≤ i = omega arith in k))
-      where
-        go : (j ≡ i) ⊎ (j < i) → P j
-        go (inl q) = subst P (sym q) here
-        go (inr k) = before j k
-
     pub searched-next : Searched d masks (i + 1) (recordFault d masks i low)
     unfolding recordFault
     searched-next =
@@ -148,11 +141,11 @@ module _ (d : Design) (s : Sound d) (masks : List ℕ) where
           place = omega arith;
           in-range = let n = w .in-range in omega arith;
           faulty = found;
-          narrow = here-or-before (λ j k g. w .narrow j k (omega arith))
+          narrow = below-next (λ j k g. w .narrow j k (omega arith))
               (λ g. not-exceeds-within _ _ (lower-not wide i low (let a = asks-le masks xs own in let b = own-le in omega arith)));
-          seeded = here-or-before (λ j k g. w .seeded j k (omega arith))
+          seeded = below-next (λ j k g. w .seeded j k (omega arith))
               (λ g. not-exceeds-within _ _ (lower-not lacks i (lowerIf wide i low) (let a = asks-le masks xs own in omega arith)));
-          granted = here-or-before (λ j k. fewer-below (maskAt masks) low r l (asked (d .at) j (maskAt masks j)) (w .granted j k)) (asks-granted masks xs own);
+          granted = below-next (λ j k. fewer-below (maskAt masks) low r l (asked (d .at) j (maskAt masks j)) (w .granted j k)) (asks-granted masks xs own);
         }
 
   pub searched-all : (i low : ℕ) → d .count ≤ i → Searched d masks i low → Lowest (isFaulty d (outputSeed d) masks) (d .count) low

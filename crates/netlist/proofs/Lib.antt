@@ -1,4 +1,4 @@
--- The laws of kinds and of rules that proofs cite, here and in the crates above.
+-- The laws of kinds, of rules and of the lowest record, which proofs cite here and in the crates above.
 -- Assumes nothing.
 pub mod KindLaws
 pub mod LowestLaws

@@ -8,6 +8,9 @@ use native.Mathlib.Nat.{eq-or-lt-of-le, not-suc-le-zero}
 use native.Mathlib.Omega.{arith}
 use Rattle.netlist.specs.Lowest.{lowestFrom, lowest}
 
+not-both : {b : Bool} {P : Type 0} → b ≡ true → b ≡ false → P
+not-both e f = absurd (let z : _≡_ {A = ℕ} 0 1 = cc in omega arith)
+
 -- a test picks no number below n
 abbrev pub Clear : (ℕ → Bool) → ℕ → Type 0
 Clear test n = (j : ℕ) → j < n → test j ≡ false
@@ -15,12 +18,13 @@ Clear test n = (j : ℕ) → j < n → test j ≡ false
 pub clear-none : (test : ℕ → Bool) → Clear test 0
 clear-none test j h = absurd (not-suc-le-zero h)
 
-pub clear-next : {test : ℕ → Bool} {i : ℕ} → Clear test i → test i ≡ false → Clear test (i + 1)
-clear-next {test} {i} below e j h = go (eq-or-lt-of-le (let l : j ≤ i = omega arith in l))
+-- what is so of all numbers below i, and of i, is so of all below i + 1
+pub below-next : {P : ℕ → Type 0} {i : ℕ} → ((j : ℕ) → j < i → P j) → P i → (j : ℕ) → j < i + 1 → P j
+below-next {P} {i} before here j h = go (eq-or-lt-of-le (let l : j ≤ i = omega arith in l))
   where
-    go : (j ≡ i) ⊎ (j < i) → test j ≡ false
-    go (inl q) = ap test q ∙ e
-    go (inr l) = below j l
+    go : (j ≡ i) ⊎ (j < i) → P j
+    go (inl q) = subst P (sym q) here
+    go (inr l) = before j l
 
 -- r is the lowest number below n that a test picks, or n where it picks none
 pub record Lowest (test : ℕ → Bool) (n r : ℕ) : Type 0 where
@@ -39,36 +43,23 @@ module _ {A : Type 0} (test : ℕ → Bool) (found : ℕ → A) (none : A) (n : 
         go : (Clear test (suc i) → P (lowestFrom test found none left (suc i))) → (b : Bool) → test i ≡ b
             → P (cond b (found i) (lowestFrom test found none left (suc i)))
         go later true q = here i (omega arith) q clear
-        go later false q = later (subst (Clear test) (let s : i + 1 ≡ suc i = omega arith in s) (clear-next clear q))
+        go later false q = later (subst (Clear test) (let s : i + 1 ≡ suc i = omega arith in s) (below-next clear q))
 
     pub lowest-cases : P (lowest test found none n)
     lowest-cases = cases-from n 0 (omega arith) (clear-none test)
 
   module _ (r : ℕ) (l : Lowest test n r) where
-    found-from : r < n → (left i : ℕ) → i + left ≡ n → i ≤ r → lowestFrom test found none left i ≡ found r
-    unfolding lowestFrom
-    found-from h zero i e g = absurd (let z : 1 ≤ 0 = omega arith in omega arith)
-    found-from h (suc left) i e g = go (found-from h left (suc i) (omega arith)) (eq-or-lt-of-le g)
-      where
-        -- what the call comes to, by the test of i
-        after : Bool → A
-        after b = cond b (found i) (lowestFrom test found none left (suc i))
-
-        go : (suc i ≤ r → after false ≡ found r) → (i ≡ r) ⊎ (i < r) → after (test i) ≡ found r
-        go later (inl q) = ap after (ap test q ∙ l .picked h) ∙ ap found q
-        go later (inr k) = ap after (l .clear i k) ∙ later k
-
     pub lowest-found : r < n → lowest test found none n ≡ found r
-    lowest-found h = found-from h n 0 (omega arith) (omega arith)
-
-    none-from : n ≤ r → (left i : ℕ) → i + left ≡ n → lowestFrom test found none left i ≡ none
-    unfolding lowestFrom
-    none-from h zero i e = refl
-    none-from h (suc left) i e =
-        ap (λ (b : Bool). cond b (found i) (lowestFrom test found none left (suc i))) (l .clear i (omega arith)) ∙ none-from h left (suc i) (omega arith)
+    lowest-found h = lowest-cases (λ a. a ≡ found r) (λ i g e c. ap found (same i e c)) (λ c. not-both (l .picked h) (c r h))
+      where
+        -- of two numbers that are picked while no lower one is, neither is lower
+        same : (i : ℕ) → test i ≡ true → Clear test i → i ≡ r
+        same i e c =
+            let low : i < r → ⊥ = λ k. not-both e (l .clear i k) in
+            let high : r < i → ⊥ = λ k. not-both (l .picked h) (c r k) in omega arith
 
     pub lowest-none : n ≤ r → lowest test found none n ≡ none
-    lowest-none h = none-from h n 0 (omega arith)
+    lowest-none h = lowest-cases (λ a. a ≡ none) (λ i g e c. not-both e (l .clear i (omega arith))) (λ c. refl)
 
 -- the lowest number itself, with n for none
 pub lowest-number : {test : ℕ → Bool} {n r : ℕ} → Lowest test n r → r ≡ lowest test (λ i. i) n n

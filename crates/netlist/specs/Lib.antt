@@ -1,4 +1,4 @@
--- What a netlist file says: kinds, records, their places, the limits, and the numbers of the refusals.
+-- What a netlist file says: kinds, records, their places, the limits, and the numbers of the refusals; and the lowest record that a test picks.
 -- Assumes nothing.
 pub mod Kinds
 pub mod Layout

@@ -28,6 +28,7 @@ unfoldable pub afterTrim : Tallied → Tallied → Tallied
 afterTrim (Done tally) answer = answer
 afterTrim (Refused r i) answer = Refused r i
 
+-- The answer of the second step.
 abbrev pub trimByAnswer : List ℕ → List ℕ → List ℕ → Tallied
 trimByAnswer file list destination = afterTrim (trimCall file list destination .answer) (listAnswer (designOf file) list)
 

@@ -1,5 +1,6 @@
 // The operation `trim_by`: writes the file that a given list of masks cuts, and answers with the list's tally.
-// `trim_by` asks nothing of its caller. Nothing is written before the last refusal has been ruled out.
+// `trim_by` asks nothing of its caller; the functions below it ask for an accepted file and a list of n words. Nothing is written before the
+// last refusal has been ruled out.
 use crate::write::write_trimmed;
 use care::Tallied;
 use checker::check;

@@ -14,7 +14,7 @@ returns c = let a = c .before .before .args in ap (λ (k : ℕ). asksFault (now 
 
 of-ask-requires : tie.Need-of-ask-requires
 of-ask-requires c κs = let r = c .before .before .args .asks in
-    named-first (r .first) (r .second) (r .third) _ (r .count) (c .if1 .left) (c .before .before .pre)
+    named-first r _ (r .count) (c .if1 .left) (c .before .before .pre)
 
 returns-2 : tie.Need-returns-2
 unfolding asksFault
@@ -24,7 +24,7 @@ returns-2 c = let a = c .before .before .before .before .args in
 of-ask-requires-2 : tie.Need-of-ask-requires-2
 of-ask-requires-2 c κs = let start = c .before .before .before .before in
     let r = start .args .asks in
-    named-second (r .first) (r .second) (r .third) _ (r .count) (c .before .before .if1 .left) (c .if2 .left) (start .pre)
+    named-second r _ (r .count) (c .before .before .if1 .left) (c .if2 .left) (start .pre)
 
 returns-3 : tie.Need-returns-3
 unfolding asksFault
@@ -36,14 +36,14 @@ of-ask-requires-3 : tie.Need-of-ask-requires-3
 of-ask-requires-3 c κs = let if1 = c .before .before .before .before .if1 in
     let start = c .before .before .before .before .before .before in
     let r = start .args .asks in
-    named-third (r .first) (r .second) (r .third) _ (r .count) (if1 .left) (c .before .before .if2 .left) (c .if3 .left) (start .pre)
+    named-third r _ (r .count) (if1 .left) (c .before .before .if2 .left) (c .if3 .left) (start .pre)
 
 returns-4 : tie.Need-returns-4
 unfolding asksFault
 returns-4 c = let a = c .before .before .before .before .before .before .before .args in
     let r = a .asks in
     let if1 = c .before .before .before .before .before .if1 in
-    let all = three-of (r .first) (r .second) (r .third) (r .count) (if1 .left) (c .before .before .before .if2 .left) (c .before .if3 .left) in
+    let all = three-of r (r .count) (if1 .left) (c .before .before .before .if2 .left) (c .before .if3 .left) in
     let first = c .before .before .before .before .of-ask .ensures in
     let second = c .before .before .of-ask2 .ensures ∙ ap (λ (n : ℕ). askFault (now (a .list)) n (r .second)) first in
     c .of-ask3 .ensures ∙ ap (λ (n : ℕ). askFault (now (a .list)) n (r .third)) second ∙ ap (asksFault (now (a .list)) (a .low)) (sym all)

@@ -5,7 +5,7 @@ use Prim.Native.Nat.{_-_, _≤_, _<_}
 use native.Mathlib.Omega.{arith}
 use denote.Ref.{now}
 use Rattle.netlist.specs.Layout.{designOf, countOf}
-use Rattle.netlist.proofs.LowestLaws.{Clear, clear-none, clear-next, lowest-found, lowest-none}
+use Rattle.netlist.proofs.LowestLaws.{Clear, clear-none, below-next, lowest-found, lowest-none}
 use Rattle.clock.specs.Call.{isWide, wordsAnswer}
 use Rattle.simulator.proofs.check_words.Statement.{statement}
 use Rattle.simulator.proofs.check_words.Tie as tie
@@ -48,7 +48,7 @@ loop-again c = let loop-test = c .before .before .loop-test in
     let pre = c .before .before .before .before .before .before .pre in
     let e = pre .size in
     let t = loop-test .taken in
-    (omega arith, clear-next (loop .inv .1) (sym (c .before .is-wide .ensures) ∙ c .if1 .left))
+    (omega arith, below-next (loop .inv .1) (sym (c .before .is-wide .ensures) ∙ c .if1 .left))
 
 returns-2 : tie.Need-returns-2 Inv-loop μ-loop
 unfolding wordsAnswer designOf

@@ -27,7 +27,7 @@ returns c = let a = c .before .before .args in (
 )
 
 join-requires : tie.Need-join-requires
-join-requires c κs = let r = c .before .before .before .before .args .asks in named-first (r .first) (r .second) (r .third) _ (r .count) (c .before .before .if1 .left) (c .before .before .before .before .pre)
+join-requires c κs = let r = c .before .before .before .before .args .asks in named-first r _ (r .count) (c .before .before .if1 .left) (c .before .before .before .before .pre)
 
 same-length : tie.Need-same-length
 same-length c = search needs
@@ -43,15 +43,15 @@ returns-2 c = let a = c .before .before .before .before .before .before .before 
     )
 
 join-requires-2 : tie.Need-join-requires-2
-join-requires-2 c κs = let r = c .before .before .before .before .args .asks in named-first (r .first) (r .second) (r .third) _ (r .count) (c .before .before .if1 .left) (c .before .before .before .before .pre)
+join-requires-2 c κs = let r = c .before .before .before .before .args .asks in named-first r _ (r .count) (c .before .before .if1 .left) (c .before .before .before .before .pre)
 
 join-requires-3 : tie.Need-join-requires-3
 join-requires-3 c κs = let args = c .before .before .before .before .before .before .before .before .args in
     let r = args .asks in
     let p = c .before .before .before .before .before .before .before .before .pre in
     let some = c .before .before .before .before .before .before .if1 .left in
-    kept-in (now (args .list)) _ (r .first) (r .second .operand) (named-first (r .first) (r .second) (r .third) _ (r .count) some p) (c .before .before .before .join2 .ensures .0)
-    (named-second (r .first) (r .second) (r .third) _ (r .count) some (c .before .before .before .before .before .if2 .left) p)
+    kept-in (now (args .list)) _ (r .first) (r .second .operand) (named-first r _ (r .count) some p) (c .before .before .before .join2 .ensures .0)
+    (named-second r _ (r .count) some (c .before .before .before .before .before .if2 .left) p)
 
 same-length-2 : tie.Need-same-length-2
 same-length-2 c = search needs
@@ -75,12 +75,12 @@ join-requires-4 c κs = let args = c .before .before .before .before .before .be
     let p = c .before .before .before .before .before .before .before .before .before .before .before .before .before .pre in
     let some = c .before .before .before .before .before .before .before .before .before .before .before .if1 .left in
     let more = c .before .before .before .before .before .before .before .before .before .before .if2 .left in
-    let x = named-first (r .first) (r .second) (r .third) _ (r .count) some p in
+    let x = named-first r _ (r .count) some p in
     let e = c .before .before .before .before .before .before .before .before .join2 .ensures .0 in
     kept-in (c .before .before .before .before .before .before .before .before .join2 .last .0) _ (r .second) (r .third .operand)
-    (kept-in l _ (r .first) (r .second .operand) x e (named-second (r .first) (r .second) (r .third) _ (r .count) some more p))
+    (kept-in l _ (r .first) (r .second .operand) x e (named-second r _ (r .count) some more p))
     (c .before .before .before .before .join3 .ensures .0)
-    (kept-in l _ (r .first) (r .third .operand) x e (named-third (r .first) (r .second) (r .third) _ (r .count) some more (c .before .if3 .left) p))
+    (kept-in l _ (r .first) (r .third .operand) x e (named-third r _ (r .count) some more (c .before .if3 .left) p))
 
 same-length-3 : tie.Need-same-length-3
 same-length-3 c = search needs
@@ -93,7 +93,7 @@ returns-4 c = let a = c .before .before .before .before .before .before .before 
     let first = c .before .before .before .before .before .before .before .before .before .before .before .join2 .ensures in
     let second = c .before .before .before .before .before .before .before .join3 .ensures in
     let third = c .before .before .join4 .ensures in
-    let all = sym (three-of (r .first) (r .second) (r .third) (r .count) (c .before .before .before .before .before .before .before .before .before .before .before .before .before .before .if1 .left) (c .before .before .before .before .before .before .before .before .before .before .before .before .before .if2 .left) (c .before .before .before .before .if3 .left)) in
+    let all = sym (three-of r (r .count) (c .before .before .before .before .before .before .before .before .before .before .before .before .before .before .if1 .left) (c .before .before .before .before .before .before .before .before .before .before .before .before .before .if2 .left) (c .before .before .before .before .if3 .left)) in
     let lists = second .0 ∙ ap (λ (m : List ℕ). joined m (r .second)) (first .0) in
     let marks = second .1 ∙ ap₂ (λ (m : List ℕ) (g : ℕ). markFor (a .i) g m (r .second)) (first .0) (first .1) in (
       third .0 ∙ ap (λ (m : List ℕ). joined m (r .third)) lists ∙ ap (λ (xs : List Ask). grant xs l) all,
