@@ -11,7 +11,7 @@
 #include "../harness/styles.h"
 #include "../harness/words.h"
 
-enum { SEED = 7, MANY_WIDTHS = 56, NOISE = 0x55, MASK_LIST = 1 };
+enum { SEED = 7, MANY_WIDTHS = 56, NOISE = 0x55 };
 
 typedef uint64_t memory[PARAMETERS][LONGEST_FILE / 8];
 

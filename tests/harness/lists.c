@@ -7,7 +7,7 @@
 #include "designs.h"
 #include "words.h"
 
-enum { MASK_LIST = 1, MOST_MORE = 4, OUTPUTS_ONE_IN = 8, ANY_ONE_IN = 4 };
+enum { MOST_MORE = 4, OUTPUTS_ONE_IN = 8, ANY_ONE_IN = 4 };
 
 /* What a record has in any case in a list of this sort. */
 static uint64_t first_bits(struct rng *rng, unsigned width,

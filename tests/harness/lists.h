@@ -15,7 +15,10 @@ enum list_sort { SMALLEST, MORE_BITS, MORE_OUTPUTS, ANY_BITS, ALL_BITS,
 void draw_list(struct rng *rng, const uint8_t *file, uint64_t *list,
                enum list_sort sort);
 
-/* One of these as the mask list, which is the second parameter. */
+/* The parameter of trimming by a list that is the list. */
+enum { MASK_LIST = 1 };
+
+/* One of these as the mask list. */
 void prepare_list(struct rng *rng, const struct netlist *nets,
                   struct lent *lent);
 
