@@ -42,10 +42,10 @@ def read_refusal(text):
     if not refused:
         return
     number, record = map(int, refused.groups())
-    # 1 to 5 concern the whole file and give record 0. From 11 on they
-    # concern lists, of which masks has none.
+    # 1 to 5 concern the whole file and give record 0. 11 to 14 concern
+    # lists, of which masks has none.
     most = MOST_RECORDS if number > 5 else 1
-    if not 1 <= number <= 10 or record >= most:
+    if number not in (*range(1, 11), 15) or record >= most:
         raise Damaged("it never gives this refusal")
     raise Refused(f"refusal {number}, record {record}")
 

@@ -1,10 +1,13 @@
 -- Arithmetic modulo a power of two: cuts, sums, differences, products, and words moved out at either end.
 -- Assumes nothing.
-use mathlib.Core.Path.{_≡_, sym, ap, _∙_}
-use Prim.Native.Nat.{ℕ, _+_, _-_, _*_, _/_, _%_, _^_, _≤_, _<_}
-use native.Mathlib.Nat.{le-dest, add-comm, mul-comm, mod-lt, add-mod-mod, mod-add-mod, add-mul, mul-add, mul-assoc, div-add-mod', mul-add-mod-self-right, add-assoc, add-mod-right, lt-of-lt-of-le, div-eq-of-lt, mul-mod-left}
+use mathlib.Core.Path.{_≡_, refl, sym, ap, _∙_}
+use mathlib.Core.Bool.{Bool, true, false, cond}
+use mathlib.Core.List.{[], _∷_}
+use Prim.Native.Nat.{ℕ, zero, suc, _+_, _-_, _*_, _/_, _%_, _^_, _≤_, _<_}
+use native.Mathlib.Nat.{le-dest, add-comm, mul-comm, mod-lt, add-mod-mod, mod-add-mod, add-mul, mul-add, mul-assoc, div-add-mod', mul-add-mod-self-right, add-assoc, add-mod-right, lt-of-lt-of-le, div-eq-of-lt, mul-mod-left, lt-of-not-le, zero-mod, mod-eq-of-lt}
 use native.Mathlib.Omega.{arith}
-use lib.Pow.{pow-pos, pow-mono, mod-mod-pow, pow-add}
+use lib.ListN.{getD}
+use lib.Pow.{pow-pos, pow-mono, mod-mod-pow, mod-pow-add, pow-add, split}
 use Rattle.bits.specs.Words.{sumAt, differenceAt}
 
 -- the longer cut is as good as none
@@ -67,21 +70,49 @@ shift-away x k g =
     ∙ ap (λ (n : ℕ). x * n % 2 ^ 64) (pow-add 2 (d .0) 64)
     ∙ ap (λ (n : ℕ). n % 2 ^ 64) (sym (mul-assoc x (2 ^ d .0) (2 ^ 64))) ∙ mul-mod-left (x * 2 ^ d .0) (2 ^ 64)
 
--- one step of the product by doubling and halving: what is still to be added, and what has been, stay the same sum
-pub halve-step : (s a b m : ℕ) → ((s + a * (b % 2)) % m + (a + a) % m * (b / 2)) % m ≡ (s + a * b) % m
-halve-step s a b m =
-    mod-add-mod (s + a * (b % 2)) m ((a + a) % m * (b / 2))
-    ∙ sym (add-mod-mod (s + a * (b % 2)) ((a + a) % m * (b / 2)) m)
-    ∙ ap (λ (n : ℕ). (s + a * (b % 2) + n) % m) (mul-mod-l (a + a) (b / 2) m)
-    ∙ add-mod-mod (s + a * (b % 2)) ((a + a) * (b / 2)) m
+-- a word that is not short of 2^k has more places than k
+pub shift-in : (x k : ℕ) → x < 2 ^ 64 → 0 < x / 2 ^ k → k < 64
+shift-in x k h g = lt-of-not-le (λ l. let e = shift-out x k h l in omega arith)
+
+-- and the k low bits of a word that is short of it are the word
+pub cut-short : (x k : ℕ) → x / 2 ^ k ≡ 0 → x % 2 ^ k ≡ x
+cut-short x k e = let s = ap (λ (n : ℕ). n * 2 ^ k + x % 2 ^ k) (sym e) ∙ split x k in omega arith
+
+-- the larger of two factors, times the smaller one
+pub factors : (t : Bool) (x y : ℕ) → cond t y x * cond t x y ≡ x * y
+factors true x y = mul-comm y x
+factors false x y = refl
+
+-- the multiples of a word by 0, 1, 2 and 3, from sums that wrap
+pub multiples : (a twice thrice m : ℕ) → a < m → twice ≡ (a + a) % m → thrice ≡ (twice + a) % m → (d : ℕ) → d < 4
+    → getD (0 ∷ a ∷ twice ∷ thrice ∷ []) d 0 ≡ a * d % m
+multiples a twice thrice m h e f zero g = sym (zero-mod m) ∙ ap (λ (n : ℕ). n % m) (omega arith)
+multiples a twice thrice m h e f (suc zero) g = sym (mod-eq-of-lt h) ∙ ap (λ (n : ℕ). n % m) (omega arith)
+multiples a twice thrice m h e f (suc (suc zero)) g = e ∙ ap (λ (n : ℕ). n % m) (omega arith)
+multiples a twice thrice m h e f (suc (suc (suc zero))) g =
+    f ∙ ap (λ (n : ℕ). (n + a) % m) e ∙ mod-add-mod (a + a) m a ∙ ap (λ (n : ℕ). n % m) (omega arith)
+multiples a twice thrice m h e f (suc (suc (suc (suc d)))) g = absurd (omega arith)
+
+-- one step of the product: what the k low bits of b called for, and the multiple that the next j call for, moved up to their place
+pub digit-step : (a b k j m : ℕ) → (a * (b % 2 ^ k) % m + a * (b / 2 ^ k % 2 ^ j) % m * 2 ^ k % m) % m ≡ a * (b % 2 ^ (k + j)) % m
+digit-step a b k j m =
+    mod-add-mod low m (a * d % m * 2 ^ k % m)
+    ∙ ap (λ (n : ℕ). (low + n) % m) (mul-mod-l (a * d) (2 ^ k) m)
+    ∙ add-mod-mod low (a * d * 2 ^ k) m
     ∙ ap (λ (n : ℕ). n % m) same
   where
-    same : s + a * (b % 2) + (a + a) * (b / 2) ≡ s + a * b
+    d : ℕ
+    d = b / 2 ^ k % 2 ^ j
+
+    low : ℕ
+    low = a * (b % 2 ^ k)
+
+    same : low + a * d * 2 ^ k ≡ a * (b % 2 ^ (k + j))
     same =
         omega (
           arith,
-          ap (λ (n : ℕ). a * n) (sym (div-add-mod' b 2)),
-          mul-add a (b / 2 * 2) (b % 2),
-          sym (mul-assoc a (b / 2) 2),
-          add-mul a a (b / 2),
+          ap (λ (n : ℕ). a * (b % 2 ^ n)) (add-comm k j),
+          ap (λ (n : ℕ). a * n) (mod-pow-add b j k),
+          mul-add a (d * 2 ^ k) (b % 2 ^ k),
+          mul-assoc a d (2 ^ k),
         )

@@ -3,8 +3,10 @@
 use crate::mask::cut_to;
 use std::num::wrapping_add_u64;
 use std::num::wrapping_sub_u64;
+ghost use mathlib.Core.Bool.{cond};
 ghost use mathlib.Core.Path.{_≡_};
-ghost use Prim.Native.Nat.{_+_, _*_, _%_, _^_, _≤_};
+ghost use Prim.Native.Nat.{_≤_};
+ghost use lib.Dec.{ltb};
 ghost use Rattle.bits.specs.Words.{up, down, sumAt, differenceAt, productAt};
 
 // x moved up by k places; what leaves the word is lost.
@@ -37,28 +39,33 @@ pub fn sub(x: u64, y: u64, w: u64) -> u64
     cut_to(wrapping_sub_u64(x, y), w)
 }
 
-// sum, with x added where y is odd.
-fn add_if_odd(sum: u64, x: u64, y: u64) -> u64
-    ensures { λ r. ⌜ r ≡ (sum + x * (y % 2)) % 2 ^ 64 ⌝ }
+fn larger(x: u64, y: u64) -> u64
+    ensures { λ r. ⌜ r ≡ cond (ltb x y) y x ⌝ }
 {
-    if y % 2 == 1 {
-        wrapping_add_u64(sum, x)
-    } else {
-        sum
-    }
+    if x < y { y } else { x }
 }
 
-// The product modulo 2^64, from sums that wrap: one factor is doubled while the other is halved.
+fn smaller(x: u64, y: u64) -> u64
+    ensures { λ r. ⌜ r ≡ cond (ltb x y) x y ⌝ }
+{
+    if x < y { x } else { y }
+}
+
+// The product modulo 2^64, from sums that wrap: for each two bits of the smaller factor the larger one is added 0, 1, 2 or 3 times,
+// moved up to their place.
 pub fn mul(x: u64, y: u64) -> u64
     ensures { λ r. ⌜ r ≡ productAt 64 x y ⌝ }
 {
+    let a = larger(x, y);
+    let twice = wrapping_add_u64(a, a);
+    let times = [0, a, twice, wrapping_add_u64(twice, a)];
     let mut sum: u64 = 0;
-    let mut a = x;
-    let mut b = y;
+    let mut b = smaller(x, y);
+    let mut k: u64 = 0;
     while 0 < b {
-        sum = add_if_odd(sum, a, b);
-        a = wrapping_add_u64(a, a);
-        b = b / 2;
+        sum = wrapping_add_u64(sum, times[(b % 4) as usize] << k);
+        b = b / 4;
+        k += 2;
     }
     sum
 }

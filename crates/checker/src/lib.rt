@@ -24,7 +24,7 @@ fn marked(file: &[u8]) -> bool
     file[0] == 0x50 && (file[1] == 0x43 && (file[2] == 0x4e && file[5] == 0))
 }
 
-// Rules 6 to 10, for record i of n.
+// Rules 6 to 9, 15 and 10, for record i of n.
 fn check_record(file: &[u8], n: usize, i: usize) -> Verdict
     requires { ⌜ (n ≡ countOf (now file)) × (recordStart n ≤ length (now file)) × (i < n) ⌝ }
     ensures { λ r. ⌜ r ≡ firstBroken (recordRules (now (file .entry)) i) ⌝ }
@@ -52,6 +52,9 @@ fn check_record(file: &[u8], n: usize, i: usize) -> Verdict
         width_at(file, uses.c),
     ) {
         return Verdict::Fail(Refusal::BadWidthRule);
+    }
+    if !multiplier_fits(code, w) {
+        return Verdict::Fail(Refusal::WideMultiplier);
     }
     if !fields_fit(fields, uses) {
         return Verdict::Fail(Refusal::UnusedBit);

@@ -20,13 +20,19 @@ use Rattle.clock.specs.Values.{valuesTo, valuesOf, nextOf, startOf}
 use Rattle.trim.specs.Call.{trimAnswer, trimAfter}
 use Rattle.trim.specs.CallBy.{afterTrim, listAnswer, trimByCall}
 use Rattle.agreement.specs.Runs.{withInputs, callOn, runFrom, cyclesOf}
-use Rattle.examples.specs.Examples.{table, definedOf, saidOf, swappedRun, listAnswers}
+use Rattle.examples.specs.Examples.{table, definedOf, saidOf, refusedMultipliers, swappedRun, listAnswers}
 
 pub examples : definedOf table ≡ saidOf table
 unfolding table definedOf saidOf onesIn lengthIn wordsFrom wordsOf sumTo kindOf operandsOf codeAt widthAt fieldsAt keepAt recordAt designOf
     headerRules namesRules operandRules widthRulesAt fieldRules wordRules recordRules firstBroken refuseAt checkFrom checkOf asked resultAt
     callAfter masksCall grant roundTo settle leastAbove masksOf answerAfter lowestFrom wordsAnswer cycleWith valuesTo valuesOf nextOf
 examples = refl
+
+-- 15 stands between 9 and 10 of its record
+pub multiplier-examples : refusedMultipliers ≡ (2 ∷ 15 ∷ 1 ∷ 0 ∷ 0 ∷ []) ∷ (2 ∷ 9 ∷ 1 ∷ 0 ∷ 0 ∷ []) ∷ (2 ∷ 15 ∷ 1 ∷ 0 ∷ 0 ∷ []) ∷ (2 ∷ 10 ∷ 1 ∷ 0 ∷ 0 ∷ []) ∷ []
+unfolding refusedMultipliers wordsFrom wordsOf kindOf operandsOf codeAt widthAt fieldsAt keepAt recordAt designOf
+    headerRules namesRules operandRules widthRulesAt fieldRules wordRules recordRules firstBroken refuseAt checkFrom checkOf callAfter masksCall
+multiplier-examples = refl
 
 -- runs compute, too: the registers exchange their values, and the refused call leaves no trace
 pub run-example : swappedRun ≡ (1 ∷ 2 ∷ []) ∷ (2 ∷ 1 ∷ []) ∷ []

@@ -1,4 +1,4 @@
--- The examples of 01 that are marked P: one table, each row from the bytes of a file; a run, and lists to trim by, as further ones.
+-- The examples of 01 that are marked P: one table, each row from the bytes of a file; refused multipliers, a run, and lists to trim by, as further ones.
 -- Assumes nothing.
 use mathlib.Core.List.{List, [], _∷_, _++_}
 use Prim.Native.Nat.{ℕ}
@@ -80,8 +80,8 @@ swapped = fileWith (register 8 1 1 ∷ register 8 0 2 ∷ [])
 abbrev difference : List ℕ
 difference = fileWith (constant 8 0 ∷ constant 8 1 ∷ sub 8 0 1 ∷ [])
 
-abbrev square : List ℕ
-square = fileWith (constant 64 0x100000001 ∷ mul 64 0 0 ∷ [])
+abbrev square : ℕ → ℕ → List ℕ
+square w k = fileWith (constant w k ∷ mul w 0 0 ∷ [])
 
 abbrev nibble : List ℕ
 nibble = fileWith (kept 0 8 0 0 0 0 0x0f ∷ [])
@@ -118,7 +118,7 @@ table =
     ∷ record { defined = masksSay unreadMux; said = 4 ∷ 25 ∷ 0 ∷ 0 ∷ 0 ∷ 0 ∷ 0 ∷ [] }
     ∷ record { defined = nextSay swapped (1 ∷ 2 ∷ []); said = 2 ∷ 1 ∷ [] }
     ∷ record { defined = valuesSay difference (0 ∷ 0 ∷ 0 ∷ []); said = 0 ∷ 1 ∷ 255 ∷ [] }
-    ∷ record { defined = valuesSay square (0 ∷ 0 ∷ []); said = 0x100000001 ∷ 8589934593 ∷ [] }
+    ∷ record { defined = valuesSay (square 32 0x10001) (0 ∷ 0 ∷ []); said = 0x10001 ∷ 131073 ∷ [] }
     ∷ record { defined = valuesSay nibble (0xab ∷ []); said = 0x0b ∷ [] }
     ∷ []
 
@@ -130,6 +130,16 @@ definedOf (row ∷ rows) = row .defined ∷ definedOf rows
 unfoldable pub saidOf : List Row → List (List ℕ)
 saidOf [] = []
 saidOf (row ∷ rows) = row .said ∷ saidOf rows
+
+-- Multipliers that are refused, by #106 and not in the table: "the 64-bit square in 01"; one of 33 bits with an operand of 32; one of 33 bits, and one of
+-- 32, with a k that no multiplier uses.
+unfoldable pub refusedMultipliers : List (List ℕ)
+refusedMultipliers =
+    masksSay (square 64 0x100000001)
+    ∷ masksSay (fileWith (constant 32 1 ∷ mul 33 0 0 ∷ []))
+    ∷ masksSay (fileWith (constant 33 1 ∷ full 12 33 0 0 0 7 ∷ []))
+    ∷ masksSay (fileWith (constant 32 1 ∷ full 12 32 0 0 0 7 ∷ []))
+    ∷ []
 
 -- A run of the swapped registers, not from 01: a start, a cycle that 11 refuses, and two cycles. The values of its accepted cycles.
 abbrev valuesIn : List Cycle → List (List ℕ)

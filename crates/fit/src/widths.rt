@@ -1,4 +1,4 @@
-// The tests of a record's width, and of the width rule of its kind.
+// The tests of a record's width, of the width rule of its kind, and of the limit of a multiplier.
 // A caller of `widths_fit` has the number of a kind; the others ask nothing.
 use netlist::record::Fields;
 use netlist::record::Kind;
@@ -9,7 +9,8 @@ ghost use Prim.Native.Nat.{_+_, _<_};
 ghost use Rattle.netlist.specs.Kinds.{kindOf, widthRules};
 ghost use Rattle.netlist.specs.Limits.{kindCount};
 ghost use Rattle.netlist.specs.Rules.{equal, below, atMost, testAll};
-ghost use Rattle.rules.specs.Fit.{widthRange};
+ghost use Rattle.netlist.specs.declared.record.Fields.{Fields};
+ghost use Rattle.rules.specs.Fit.{widthRange, multiplierRules};
 
 fn one_equal(x: u64, y: u64) -> bool
     ensures { λ r. ⌜ r ≡ testAll (equal x y ∷ []) ⌝ }
@@ -48,6 +49,13 @@ fn sum_at_most(x: u64, y: u64, z: u64) -> bool
     ensures { λ r. ⌜ r ≡ testAll (atMost (x + y) z ∷ []) ⌝ }
 {
     y <= z && x <= z - y
+}
+
+// A multiplier has 32 bits or less.
+pub fn multiplier_fits(code: u64, w: u64) -> bool
+    ensures { λ r. ⌜ ((f : Fields) → r ≡ testAll (multiplierRules (kindOf code f) w)) ⌝ }
+{
+    code != Record::MUL || w <= Record::MAX_MULTIPLIER_WIDTH
 }
 
 pub fn width_in_range(w: u64) -> bool

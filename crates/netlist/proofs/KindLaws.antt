@@ -1,4 +1,4 @@
--- Laws of the table of kinds: numbers and kinds answer to each other, 1 alone is a constant's number, 2 a register's and 3 an output's,
+-- Laws of the table of kinds: numbers and kinds answer to each other, 1 alone is a constant's number, 12 a multiplier's, 2 a register's and 3 an output's,
 -- which kinds have two operands, which are shifts and which are gates, unused fields are 0, and k is a word. Assumes nothing.
 use mathlib.Core.Path.{_≡_, refl, sym, ap, _∙_}
 use mathlib.Core.Bool.{Bool, true, false, cond, false≢true}
@@ -10,7 +10,7 @@ use lib.Dec.{eqb, ltb, isEq, lit<}
 use lib.ListN.{getD, drop, replicate, List·getD-eq-default, List·getD-map}
 use Rattle.endian.specs.Lists.{wordsOf, wordsFrom}
 use Rattle.endian.proofs.ListLaws.{word-at}
-use Rattle.netlist.specs.Kinds.{kinds, kindOf, codeOf, isConstant, shiftRange, usesOf, widthRules, isOutput, isRegister, operandsOf, one, two}
+use Rattle.netlist.specs.Kinds.{kinds, kindOf, codeOf, isConstant, isMultiplier, shiftRange, usesOf, widthRules, isOutput, isRegister, operandsOf, one, two}
 use Rattle.netlist.specs.Limits.{kindCount}
 use Rattle.netlist.specs.Rules.{Rule, equal, below, AllHold, testAll}
 use Rattle.netlist.specs.declared.record.Fields.{Fields}
@@ -48,6 +48,11 @@ alone (suc m) rest (suc n) = alone m rest n ∙ sym (ap isEq (compare·suc-suc n
 pub constant-code : (code : ℕ) (f : Fields) → isConstant (kindOf code f) ≡ eqb code 1
 unfolding kindOf
 constant-code code f = sym (List·getD-map isConstant (kinds f) code Input) ∙ alone 1 17 code
+
+-- 12 alone is a multiplier's
+pub multiplier-code : (code : ℕ) (f : Fields) → isMultiplier (kindOf code f) ≡ eqb code 12
+unfolding kindOf
+multiplier-code code f = sym (List·getD-map isMultiplier (kinds f) code Input) ∙ alone 12 6 code
 
 -- "names an output": 3 alone is an output's number, and 2 a register's
 pub output-code : (code : ℕ) (f : Fields) → isOutput (usesOf (kindOf code f) .role) ≡ eqb code 3

@@ -67,6 +67,10 @@ codeOf (SignedBelow a b) = 18
 abbrev pub isConstant : Kind → Bool
 isConstant kind = eqb (codeOf kind) 1
 
+-- "a multiplier": a record of kind 12.
+abbrev pub isMultiplier : Kind → Bool
+isMultiplier kind = eqb (codeOf kind) 12
+
 -- The numbers of the shifts.
 abbrev pub shiftRange : ℕ → List Rule
 shiftRange code = atMost 15 code ∷ below code 18 ∷ []

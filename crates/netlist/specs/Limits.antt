@@ -11,3 +11,7 @@ maxCount = 2048
 
 abbrev pub kindCount : ℕ
 kindCount = 19
+
+-- #106: "Multipliers up to 32 bits."
+abbrev pub maxMultiplierWidth : ℕ
+maxMultiplierWidth = 32

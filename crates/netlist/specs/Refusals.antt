@@ -2,7 +2,7 @@
 -- Assumes nothing.
 use Prim.Native.Nat.{ℕ}
 use Rattle.netlist.specs.declared.refusal.Refusal.{Refusal}
-use Rattle.netlist.specs.declared.refusal.Refusal.the-variants.{TooShort, BadMark, BadVersion, TooManyRecords, BadLength, BadKind, BadWidth, BadOperand, BadWidthRule, UnusedBit, BadList, WideWord, BadDestination, BadMask}
+use Rattle.netlist.specs.declared.refusal.Refusal.the-variants.{TooShort, BadMark, BadVersion, TooManyRecords, BadLength, BadKind, BadWidth, BadOperand, BadWidthRule, UnusedBit, BadList, WideWord, BadDestination, BadMask, WideMultiplier}
 
 -- "What is refused, in checking order": the numbers of that list.
 abbrev pub numberOf : Refusal → ℕ
@@ -20,3 +20,4 @@ numberOf BadList = 11
 numberOf WideWord = 12
 numberOf BadDestination = 13
 numberOf BadMask = 14
+numberOf WideMultiplier = 15

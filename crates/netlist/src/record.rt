@@ -74,6 +74,8 @@ impl Record {
 
     pub const KINDS: u64 = 19;
 
+    pub const MAX_MULTIPLIER_WIDTH: u64 = 32;
+
     // Numbers of kinds that the code tests. Those below the register have no operand. Those below the concat have one, and so have the
     // shifts, which end before the signed below. Of the others only the mux has three.
     pub const CONSTANT: u64 = 1;
@@ -87,6 +89,8 @@ impl Record {
     pub const CONCAT: u64 = 5;
 
     pub const MUX: u64 = 9;
+
+    pub const MUL: u64 = 12;
 
     pub const EQUAL: u64 = 13;
 

@@ -19,6 +19,7 @@ pub enum Refusal {
     WideWord,
     BadDestination,
     BadMask,
+    WideMultiplier,
 }
 
 impl Refusal {
@@ -41,6 +42,7 @@ impl Refusal {
             Refusal::WideWord => 12,
             Refusal::BadDestination => 13,
             Refusal::BadMask => 14,
+            Refusal::WideMultiplier => 15,
         }
     }
 }

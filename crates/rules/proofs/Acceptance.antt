@@ -92,11 +92,12 @@ accepted file n e =
               narrow = k .1 .0 .1 .0;
               operands = k .1 .1 .0;
               widths = k .1 .1 .1 .0;
-              keep = k .1 .1 .1 .1 .1 .0 .0;
-              word = k .1 .1 .1 .1 .1 .0 .1 .0;
+              multiplier = k .1 .1 .1 .1 .0;
+              keep = k .1 .1 .1 .1 .1 .1 .0 .0;
+              word = k .1 .1 .1 .1 .1 .1 .0 .1 .0;
             };
       };
-      fields = λ i h. kept .each i (subst (λ (m : ℕ). i < m) same h) .1 .1 .1 .1 .0;
+      fields = λ i h. kept .each i (subst (λ (m : ℕ). i < m) same h) .1 .1 .1 .1 .1 .0;
     }
 
 -- an accepted file may be spoken of with its own count

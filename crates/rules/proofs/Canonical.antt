@@ -59,7 +59,7 @@ module _ (file : List ℕ) where
   stands-record b i kept =
       let p = recordStart i in
       let u = usesOf (recordAt file i .kind) in
-      let same = kept .1 .1 .1 .1 .0 in
+      let same = kept .1 .1 .1 .1 .1 .0 in
       let a = bytes 2 (u .a) in
       let ab = a ++ bytes 2 (u .b) in
       let abc = ab ++ bytes 2 (u .c) in

@@ -22,7 +22,7 @@ use Rattle.rules.specs.Check.{headerRules, recordRules, firstBroken, ref
 use Rattle.rules.specs.declared.Verdict.{Verdict}
 use Rattle.rules.specs.declared.Verdict.the-variants.{Pass, Fail}
 
--- "What is refused, in checking order": the refusals are tried in the order of their numbers
+-- "What is refused, in checking order": the refusals are tried in the order of their numbers, but for 15, "directly after 9"
 abbrev pub numbersOf : List (Refusal × List Rule) → List ℕ
 numbersOf [] = []
 numbersOf (e ∷ es) = numberOf (e .0) ∷ numbersOf es
@@ -31,7 +31,7 @@ pub header-order : (file : List ℕ) → numbersOf (headerRules file) ≡ 1 ∷ 
 unfolding headerRules
 header-order file = refl
 
-pub record-order : (file : List ℕ) (i : ℕ) → numbersOf (recordRules file i) ≡ 6 ∷ 7 ∷ 8 ∷ 9 ∷ 10 ∷ 10 ∷ []
+pub record-order : (file : List ℕ) (i : ℕ) → numbersOf (recordRules file i) ≡ 6 ∷ 7 ∷ 8 ∷ 9 ∷ 15 ∷ 10 ∷ 10 ∷ []
 unfolding recordRules
 record-order file i = refl
 

@@ -99,7 +99,7 @@ module _ (d : Design) (s : Sound d) where
       let e = record-same d (designOf (encode d)) same-back s i h in
       let code = code-back i h in
       let low = code-low (d .at i .kind) in
-      ((omega arith, tt), ((e .positive, (e .narrow, tt)), (e .operands, (e .widths, (fields-kept i h, ((e .keep, (e .word, tt)), tt))))))
+      ((omega arith, tt), ((e .positive, (e .narrow, tt)), (e .operands, (e .widths, (e .multiplier, (fields-kept i h, ((e .keep, (e .word, tt)), tt)))))))
 
   check-back : checkOf (encode d) ≡ Accepted (d .count)
   check-back =

@@ -18,7 +18,7 @@ use Rattle.netlist.specs.declared.record.Role.the-variants.{Register as registe
 use Rattle.netlist.specs.declared.record.Uses.{Uses}
 use Rattle.netlist.proofs.KindLaws.{padded, is-register, k-word}
 use Rattle.netlist.proofs.Tests.{hold-tests}
-use Rattle.rules.specs.Fit.{operandLimit, namesRules, operandRules, widthRulesAt}
+use Rattle.rules.specs.Fit.{operandLimit, namesRules, operandRules, widthRulesAt, multiplierRules}
 use Rattle.rules.specs.Sound.{Sound, SoundRecord, SameDesign}
 use Rattle.rules.proofs.OperandLaws.{operand-below}
 use Rattle.rules.proofs.CheckLaws.{limit-le}
@@ -112,6 +112,7 @@ module _ (d e : Design) (same : SameDesign d e) (s : Sound d) (i : ℕ) (h : i <
         narrow = subst (λ (r : Record). r .width ≤ maxWidth) q (r .narrow);
         operands = operands-same;
         widths = widths-same;
+        multiplier = subst (λ (r : Record). AllHold (multiplierRules (r .kind) (r .width))) q (r .multiplier);
         keep = subst (λ (r : Record). r .keep < 2 ^ r .width) q (r .keep);
         word = subst (λ (r : Record). usesOf (r .kind) .word < 2 ^ r .width) q (r .word);
       }

@@ -9,8 +9,8 @@ use Rattle.netlist.specs.Limits.{maxCount, kindCount}
 use Rattle.netlist.specs.Layout.{designOf, headerSize, recordSize, byteAt, versionOf, countOf, codeAt, fieldsAt}
 use Rattle.netlist.specs.Rules.{Rule, equal, below, atMost, testAll}
 use Rattle.netlist.specs.declared.refusal.Refusal.{Refusal}
-use Rattle.netlist.specs.declared.refusal.Refusal.the-variants.{TooShort, BadMark, BadVersion, TooManyRecords, BadLength, BadKind, BadWidth, BadOperand, BadWidthRule, UnusedBit}
-use Rattle.rules.specs.Fit.{widthRange, operandRules, widthRulesAt, fieldRules, wordRules}
+use Rattle.netlist.specs.declared.refusal.Refusal.the-variants.{TooShort, BadMark, BadVersion, TooManyRecords, BadLength, BadKind, BadWidth, BadOperand, BadWidthRule, UnusedBit, WideMultiplier}
+use Rattle.rules.specs.Fit.{widthRange, operandRules, widthRulesAt, multiplierRules, fieldRules, wordRules}
 use Rattle.rules.specs.declared.Checked.{Checked}
 use Rattle.rules.specs.declared.Checked.the-variants.{Accepted, Refused}
 use Rattle.rules.specs.declared.Verdict.{Verdict}
@@ -31,7 +31,7 @@ headerRules file =
     ∷ (BadLength, equal (length file) (headerSize + recordSize * countOf file) ∷ [])
     ∷ []
 
--- "Numbers 6 to 10 are tried in turn within a record". 6: "The kind is above 18." 7 to 10 are in `Fit`.
+-- "Numbers 6 to 10 are tried in turn within a record", with 15 "directly after 9". 6: "The kind is above 18." 7 to 10 and 15 are in `Fit`.
 unfoldable pub recordRules : List ℕ → ℕ → List (Refusal × List Rule)
 recordRules file i =
     let d = designOf file in
@@ -39,6 +39,7 @@ recordRules file i =
     ∷ (BadWidth, widthRange (d .at i .width))
     ∷ (BadOperand, operandRules d i)
     ∷ (BadWidthRule, widthRulesAt d i)
+    ∷ (WideMultiplier, multiplierRules (d .at i .kind) (d .at i .width))
     ∷ (UnusedBit, fieldRules (fieldsAt file i) (usesOf (d .at i .kind)))
     ∷ (UnusedBit, wordRules (d .at i))
     ∷ []
@@ -58,6 +59,6 @@ unfoldable pub checkFrom : List ℕ → ℕ → ℕ → Checked
 checkFrom file zero i = Accepted (countOf file)
 checkFrom file (suc left) i = refuseAt i (firstBroken (recordRules file i)) (checkFrom file left (suc i))
 
--- The answer of check: "the record is 0 outside 6 to 10 and 12", of which 12 is no refusal of a file.
+-- The answer of check: "the record is 0 outside 6 to 10 and 12", of which 12 is no refusal of a file; 15 comes "with its record".
 unfoldable pub checkOf : List ℕ → Checked
 checkOf file = refuseAt 0 (firstBroken (headerRules file)) (checkFrom file (countOf file) 0)

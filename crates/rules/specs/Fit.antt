@@ -1,12 +1,14 @@
--- The rules within a record: its width, its operands, its kind's width rule, its fields and words. 01 refuses what breaks them with 7 to 10.
+-- The rules within a record: its width, operands, width rule, the limit of a multiplier, fields and words. What breaks them is refused with 7 to 10 and 15.
 -- Assumes nothing.
+use mathlib.Core.Bool.{cond}
 use mathlib.Core.List.{List, [], _∷_}
 use Prim.Native.Nat.{ℕ, _^_}
-use Rattle.netlist.specs.Kinds.{usesOf, widthRules, isOutput, operandsOf}
-use Rattle.netlist.specs.Limits.{maxWidth}
+use Rattle.netlist.specs.Kinds.{usesOf, widthRules, isMultiplier, isOutput, operandsOf}
+use Rattle.netlist.specs.Limits.{maxWidth, maxMultiplierWidth}
 use Rattle.netlist.specs.Layout.{Design, roleAt}
 use Rattle.netlist.specs.Rules.{Rule, equal, below, atMost, isNot}
 use Rattle.netlist.specs.declared.record.Fields.{Fields}
+use Rattle.netlist.specs.declared.record.Kind.{Kind}
 use Rattle.netlist.specs.declared.record.Record.{Record}
 use Rattle.netlist.specs.declared.record.Role.{Role}
 use Rattle.netlist.specs.declared.record.Role.the-variants.{Input, Register, Output, Gate}
@@ -37,6 +39,10 @@ unfoldable pub widthRulesAt : Design → ℕ → List Rule
 widthRulesAt d i =
     let u = usesOf (d .at i .kind) in
     widthRules (d .at i .kind) (d .at i .width) (d .at (u .a) .width) (d .at (u .b) .width) (d .at (u .c) .width)
+
+-- 15: "when a multiplier is wider than 32 bits, directly after 9 in that record".
+abbrev pub multiplierRules : Kind → ℕ → List Rule
+multiplierRules kind w = cond (isMultiplier kind) (atMost w maxMultiplierWidth ∷ []) []
 
 -- 10: "An unused operand or unused k is not zero": each field is the one that the kind uses, or 0.
 unfoldable pub fieldRules : Fields → Uses → List Rule

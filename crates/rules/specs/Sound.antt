@@ -8,15 +8,16 @@ use Rattle.netlist.specs.Limits.{maxWidth, maxCount}
 use Rattle.netlist.specs.Kinds.{usesOf}
 use Rattle.netlist.specs.Layout.{Design, designOf, countOf, recordStart, recordAt, fieldsAt}
 use Rattle.netlist.specs.Rules.{AllHold}
-use Rattle.rules.specs.Fit.{operandRules, widthRulesAt, fieldRules}
+use Rattle.rules.specs.Fit.{operandRules, widthRulesAt, multiplierRules, fieldRules}
 
 -- What acceptance says of record i: its width lies within the limits, its operands are in range and no outputs, its kind's
--- width rule holds, and its keep word and the k of a constant or register have no bit at w or above.
+-- width rule holds, it is no multiplier of more than 32 bits, and its keep word and the k of a constant or register have no bit at w or above.
 pub record SoundRecord (d : Design) (i : ℕ) : Type 0 where
   pub positive : 1 ≤ d .at i .width
   pub narrow : d .at i .width ≤ maxWidth
   pub operands : AllHold (operandRules d i)
   pub widths : AllHold (widthRulesAt d i)
+  pub multiplier : AllHold (multiplierRules (d .at i .kind) (d .at i .width))
   pub keep : d .at i .keep < 2 ^ d .at i .width
   pub word : usesOf (d .at i .kind) .word < 2 ^ d .at i .width
 

@@ -36,6 +36,7 @@ module _ (d : Design) (s : Sound d) (masks : List ℕ) where
         narrow = r .narrow;
         operands = names-same d (trimDesign d masks) (operandLimit (u .role) (d .count) i) (λ j g. refl) (operandsOf u) (r .operands);
         widths = r .widths;
+        multiplier = r .multiplier;
         keep = within-lt (d .at i .width) (meet-right (maskAt masks i) (d .at i .keep)) (r .keep);
         word = r .word;
       }
@@ -125,7 +126,7 @@ module _ (file : List ℕ) (n : ℕ) (e : checkOf file ≡ Accepted n) (masks : 
 
   fields-kept : (i : ℕ) → i < countOf file → AllHold (fieldRules (fieldsAt other i) (usesOf (designOf other .at i .kind)))
   unfolding recordRules designOf recordAt
-  fields-kept i h = rw (code-same i, fields-same i) (accepted-kept file n e .each i h .1 .1 .1 .1 .0)
+  fields-kept i h = rw (code-same i, fields-same i) (accepted-kept file n e .each i h .1 .1 .1 .1 .1 .0)
 
   record-kept : (i : ℕ) → i < countOf file → Kept (recordRules other i)
   unfolding recordRules wordRules designOf trimDesign
@@ -133,7 +134,7 @@ module _ (file : List ℕ) (n : ℕ) (e : checkOf file ≡ Accepted n) (masks : 
       let r = record-same (trimDesign (designOf file) masks) (designOf other) holds-cut (trim-sound (designOf file) sound masks) i h in
       let code = accepted-kept file n e .each i h .0 .0 in
       let q = code-same i in
-      ((omega arith, tt), ((r .positive, (r .narrow, tt)), (r .operands, (r .widths, (fields-kept i h, ((r .keep, (r .word, tt)), tt))))))
+      ((omega arith, tt), ((r .positive, (r .narrow, tt)), (r .operands, (r .widths, (r .multiplier, (fields-kept i h, ((r .keep, (r .word, tt)), tt)))))))
 
   pub trim-accepted : checkOf other ≡ Accepted n
   trim-accepted =

@@ -16,7 +16,7 @@ use Rattle.netlist.specs.Rules.{testAll}
 use Rattle.netlist.specs.declared.record.Fields.{Fields}
 use Rattle.netlist.specs.declared.record.Uses.{Uses}
 use Rattle.netlist.proofs.KindLaws.{padded, Padded}
-use Rattle.rules.specs.Fit.{widthRange, fieldRules, widthRulesAt, operandRules, wordRules}
+use Rattle.rules.specs.Fit.{widthRange, multiplierRules, fieldRules, widthRulesAt, operandRules, wordRules}
 use Rattle.rules.specs.Check.{firstBroken, recordRules}
 use Rattle.rules.specs.declared.Verdict.{Verdict}
 use Rattle.rules.proofs.OperandLaws.{operand-below}
@@ -42,6 +42,9 @@ new-4 c = new-3 (c .before .before .before .before .before)
 
 abbrev new-5 : tie.Else5 → tie.After-new
 new-5 c = new-4 (c .before .before)
+
+abbrev new-6 : tie.Else6 → tie.After-new
+new-6 c = new-5 (c .before .before)
 
 abbrev file-of : tie.Start → List ℕ
 file-of s = now (s .args .file)
@@ -84,15 +87,25 @@ widths-test c =
     (c .before .width-at4 .result) (c .before .before .before .width-at2 .ensures) (c .before .before .width-at3 .ensures)
     (c .before .width-at4 .ensures))
 
-fields-test : (c : tie.After-fields-fit) → let s = from-new (new-4 (c .before)) in c .fields-fit .result ≡ testAll (fieldRules (fieldsAt (file-of s) (s .args .i)) (usesOf (design-of s .at (s .args .i) .kind)))
+multiplier-test : (c : tie.After-multiplier-fits) → let s = from-new (new-4 (c .before)) in c .multiplier-fits .result ≡ testAll (multiplierRules (design-of s .at (s .args .i) .kind) (design-of s .at (s .args .i) .width))
+unfolding designOf recordAt
+multiplier-test c =
+    let u = new-4 (c .before) in
+    let s = from-new u in
+    let f = fieldsAt (file-of s) (s .args .i) in
+    c .multiplier-fits .ensures f
+    ∙ ap₂ (λ (n w : ℕ). testAll (multiplierRules (kindOf n f) w)) (u .before .before .before .before .before .before .code-at .ensures)
+    (u .before .before .before .before .width-at .ensures)
+
+fields-test : (c : tie.After-fields-fit) → let s = from-new (new-5 (c .before)) in c .fields-fit .result ≡ testAll (fieldRules (fieldsAt (file-of s) (s .args .i)) (usesOf (design-of s .at (s .args .i) .kind)))
 unfolding designOf
 fields-test c =
-    let u = new-4 (c .before) in
+    let u = new-5 (c .before) in
     c .fields-fit .ensures ∙ ap₂ (λ (f : Fields) (v : Uses). testAll (fieldRules f v)) (u .before .fields-at .ensures) (used-read u)
 
-words-test : (c : tie.After-words-fit) → let s = from-new (new-5 (c .before .before)) in c .words-fit .result ≡ testAll (wordRules (design-of s .at (s .args .i)))
+words-test : (c : tie.After-words-fit) → let s = from-new (new-6 (c .before .before)) in c .words-fit .result ≡ testAll (wordRules (design-of s .at (s .args .i)))
 words-test c =
-    let u = new-5 (c .before .before) in
+    let u = new-6 (c .before .before) in
     let s = from-new u in
     let w = u .before .before .before .before .width-at in
     c .words-fit .ensures
@@ -136,9 +149,13 @@ widths-right : (c : tie.Else4) → Leaves (from-new (new-4 c)) 4
 unfolding Leaves recordRules
 widths-right c v e = operands-right (c .before .before .before .before .before) v (holding _ _ (sym (widths-test (c .before)) ∙ not-false _ (c .if4 .left)) e)
 
-fields-right : (c : tie.Else5) → Leaves (from-new (new-5 c)) 5
+multiplier-right : (c : tie.Else5) → Leaves (from-new (new-5 c)) 5
 unfolding Leaves recordRules
-fields-right c v e = widths-right (c .before .before) v (holding _ _ (sym (fields-test (c .before)) ∙ not-false _ (c .if5 .left)) e)
+multiplier-right c v e = widths-right (c .before .before) v (holding _ _ (sym (multiplier-test (c .before)) ∙ not-false _ (c .if5 .left)) e)
+
+fields-right : (c : tie.Else6) → Leaves (from-new (new-6 c)) 6
+unfolding Leaves recordRules
+fields-right c v e = multiplier-right (c .before .before) v (holding _ _ (sym (fields-test (c .before)) ∙ not-false _ (c .if6 .left)) e)
 
 code-at-requires : tie.Need-code-at-requires
 code-at-requires c κs = omega arith
@@ -189,26 +206,33 @@ returns-4 : tie.Need-returns-4
 unfolding Leaves recordRules
 returns-4 c = operands-right (c .before .before .before .before .before) _ (broken _ _ (sym (widths-test (c .before)) ∙ not-true _ (c .if4 .taken)))
 
-fields-fit-requires : tie.Need-fields-fit-requires
-fields-fit-requires c κs = tt
+multiplier-fits-requires : tie.Need-multiplier-fits-requires
+multiplier-fits-requires c κs = tt
 
 returns-5 : tie.Need-returns-5
 unfolding Leaves recordRules
-returns-5 c = widths-right (c .before .before) _ (broken _ _ (sym (fields-test (c .before)) ∙ not-true _ (c .if5 .taken)))
+returns-5 c = widths-right (c .before .before) _ (broken _ _ (sym (multiplier-test (c .before)) ∙ not-true _ (c .if5 .taken)))
+
+fields-fit-requires : tie.Need-fields-fit-requires
+fields-fit-requires c κs = tt
+
+returns-6 : tie.Need-returns-6
+unfolding Leaves recordRules
+returns-6 c = multiplier-right (c .before .before) _ (broken _ _ (sym (fields-test (c .before)) ∙ not-true _ (c .if6 .taken)))
 
 keep-at-requires : tie.Need-keep-at-requires
-keep-at-requires c κs = let s = from-new (new-5 c) in omega (arith, s .pre .1, s .pre .2)
+keep-at-requires c κs = let s = from-new (new-6 c) in omega (arith, s .pre .1, s .pre .2)
 
 words-fit-requires : tie.Need-words-fit-requires
 words-fit-requires c κs = tt
 
-returns-6 : tie.Need-returns-6
-unfolding Leaves recordRules
-returns-6 c = fields-right (c .before .before .before) _ (broken _ _ (sym (words-test (c .before)) ∙ not-true _ (c .if6 .taken)))
-
 returns-7 : tie.Need-returns-7
 unfolding Leaves recordRules
-returns-7 c = fields-right (c .before .before .before) _ (holding _ _ (sym (words-test (c .before)) ∙ not-false _ (c .if6 .left)) none-broken)
+returns-7 c = fields-right (c .before .before .before) _ (broken _ _ (sym (words-test (c .before)) ∙ not-true _ (c .if7 .taken)))
+
+returns-8 : tie.Need-returns-8
+unfolding Leaves recordRules
+returns-8 c = fields-right (c .before .before .before) _ (holding _ _ (sym (words-test (c .before)) ∙ not-false _ (c .if7 .left)) none-broken)
 
 pub check-record-spec : {M : Type 1} → statement M
 check-record-spec =
@@ -229,9 +253,11 @@ check-record-spec =
     width-at-requires-4
     widths-fit-requires
     returns-4
-    fields-fit-requires
+    multiplier-fits-requires
     returns-5
+    fields-fit-requires
+    returns-6
     keep-at-requires
     words-fit-requires
-    returns-6
-    returns-7)
+    returns-7
+    returns-8)

@@ -1,47 +1,91 @@
--- `bits::arith::mul` meets its contract: each turn keeps sum + a * b modulo 2^64, and b falls to 0.
+-- `bits::arith::mul` meets its contract: after k bits of the smaller factor the sum is the product with these bits alone.
 -- Assumes nothing.
-use lib.Dec.{lit<}
-use native.Mathlib.Nat.{mod-lt, zero-add, add-zero, mul-zero, mod-eq-of-lt}
-use Rattle.bits.proofs.Modulo.{halve-step}
-use lib.Arith.{le-zero}
-use borrow.Author.Needs.{needs}
-use native.Mathlib.Omega.{arith}
-use mathlib.Core.Path.{_≡_, ap, ap₂, _∙_, sym, subst}
-use Prim.Native.Nat.{ℕ, _+_, _*_, _%_, _/_, _^_, _<_}
 use Rattle.bits.proofs.arith.mul.Statement.{statement}
 use Rattle.bits.proofs.arith.mul.Tie as tie
+use mathlib.Core.Path.{_≡_, sym, ap, ap₂, _∙_}
+use Prim.Native.Nat.{ℕ, _+_, _*_, _/_, _%_, _^_, _<_}
+use native.Mathlib.Nat.{mod-lt, mod-one, mul-zero, div-one}
+use native.Mathlib.Omega.{arith}
+use lib.Arith.{le-zero}
+use lib.Dec.{lit<, ltb}
+use lib.Pow.{shr-shr}
+use Rattle.bits.proofs.Modulo.{shift-in, cut-short, factors, multiples, digit-step}
+use Rattle.bits.specs.Words.{cut, down, productAt}
 
 abbrev Inv-loop : tie.InvT-loop
-Inv-loop x y sum₀ a₀ b₀ sum a b = ((sum + a * b) % 2 ^ 64 ≡ x * y % 2 ^ 64) × (sum < 2 ^ 64)
+Inv-loop x y a twice times sum₀ b₀ k₀ sum b k = (sum ≡ productAt 64 a (cut k b₀)) × (b ≡ down k b₀)
 
 abbrev μ-loop : tie.MeasureT-loop
-μ-loop x y sum₀ a₀ b₀ sum a b = b
+μ-loop x y a twice times sum₀ b₀ k₀ sum b k = b
 
-loop-holds : tie.Need-loop-holds Inv-loop μ-loop
-loop-holds c = (ap (λ (n : ℕ). n % 2 ^ 64) (zero-add (c .args .x * c .args .y)), omega arith)
+-- bits are left, so their place lies within the word
+place-low : (c : tie.In-loop Inv-loop μ-loop) → c .before .loop .k < 64
+place-low c =
+    let l = c .before .loop in
+    let smaller = c .before .before .smaller in
+    shift-in (smaller .result) (l .k) (omega (arith, smaller .ok)) (let left = l .inv .1 in omega (arith, c .loop-test .taken))
 
-add-if-odd-requires : tie.Need-add-if-odd-requires Inv-loop μ-loop
-add-if-odd-requires c κs = search needs
+larger-requires : tie.Need-larger-requires Inv-loop μ-loop
+larger-requires c κs = tt
 
 wrapping-add-u64-requires : tie.Need-wrapping-add-u64-requires Inv-loop μ-loop
-wrapping-add-u64-requires c κs = search needs
+wrapping-add-u64-requires c κs = tt
+
+wrapping-add-u64-requires-2 : tie.Need-wrapping-add-u64-requires-2 Inv-loop μ-loop
+wrapping-add-u64-requires-2 c κs = tt
+
+smaller-requires : tie.Need-smaller-requires Inv-loop μ-loop
+smaller-requires c κs = tt
+
+loop-holds : tie.Need-loop-holds Inv-loop μ-loop
+loop-holds c =
+    let a = c .before .before .before .larger .result in
+    let b = c .smaller .result in
+    (ap (λ (n : ℕ). n % 2 ^ 64) (sym (mul-zero a) ∙ ap (λ (n : ℕ). a * n) (sym (mod-one b))), sym (div-one b))
+
+mul-wrapping-add-u64 : tie.Need-mul-wrapping-add-u64 Inv-loop μ-loop
+mul-wrapping-add-u64 c = let d = mod-lt (c .before .loop .b) (lit< {n = 4} tt) in omega arith
+
+array-read-wrapping-add-u64 : tie.Need-array-read-wrapping-add-u64 Inv-loop μ-loop
+array-read-wrapping-add-u64 c = mod-lt (c .before .loop .b) (lit< tt)
+
+shl-wrapping-add-u64 : tie.Need-shl-wrapping-add-u64 Inv-loop μ-loop
+shl-wrapping-add-u64 c = place-low c
+
+wrapping-add-u64-requires-3 : tie.Need-wrapping-add-u64-requires-3 Inv-loop μ-loop
+wrapping-add-u64-requires-3 c κs = tt
+
+add-k : tie.Need-add-k Inv-loop μ-loop
+add-k c = let h = place-low (c .before) in omega arith
 
 loop-less : tie.Need-loop-less Inv-loop μ-loop
 loop-less c = omega arith
 
 loop-again : tie.Need-loop-again Inv-loop μ-loop
-loop-again c = let l = c .before .before .before .loop in
-    let added = c .before .add-if-odd .ensures in (
-      ap₂ (λ (m n : ℕ). (m + n * (l .b / 2)) % 2 ^ 64) added (c .wrapping-add-u64 .ensures)
-          ∙ halve-step (l .sum) (l .a) (l .b) (2 ^ 64) ∙ l .inv .0,
-      subst (λ (n : ℕ). n < 2 ^ 64) (sym added) (mod-lt (l .sum + l .a * (l .b % 2)) (lit< tt)),
+loop-again c =
+    let l = c .before .before .loop in
+    let larger = c .before .before .before .before .before .before .larger in
+    let twice = c .before .before .before .before .before .wrapping-add-u64 in
+    let thrice = c .before .before .before .before .wrapping-add-u642 in
+    let b = c .before .before .before .smaller .result in
+    let digit = multiples (larger .result) (twice .result) (thrice .result) (2 ^ 64) (omega (arith, larger .ok)) (twice .ensures) (thrice .ensures) (l .b % 4) (mod-lt (l .b) (lit< tt)) in (
+      c .wrapping-add-u643 .ensures
+          ∙ ap₂ (λ (s t : ℕ). (s + t * 2 ^ l .k % 2 ^ 64) % 2 ^ 64) (l .inv .0)
+          (digit ∙ ap (λ (n : ℕ). larger .result * (n % 4) % 2 ^ 64) (l .inv .1))
+          ∙ digit-step (larger .result) b (l .k) 2 (2 ^ 64),
+      ap (λ (n : ℕ). n / 4) (l .inv .1) ∙ shr-shr b (l .k) 2,
     )
 
 returns : tie.Need-returns Inv-loop μ-loop
-returns c = let l = c .before .loop in
-    sym (mod-eq-of-lt (l .inv .1))
-    ∙ ap (λ (n : ℕ). n % 2 ^ 64) (sym (add-zero (l .sum)) ∙ ap (λ (n : ℕ). l .sum + n) (sym (mul-zero (l .a)) ∙ ap (λ (n : ℕ). l .a * n) (sym (le-zero (c .loop-test .left)))))
-    ∙ l .inv .0
+returns c =
+    let l = c .before .loop in
+    let larger = c .before .before .before .before .before .larger in
+    let smaller = c .before .before .smaller in
+    let args = c .before .before .before .before .before .before .args in
+    l .inv .0
+    ∙ ap (λ (n : ℕ). larger .result * n % 2 ^ 64) (cut-short (smaller .result) (l .k) (sym (l .inv .1) ∙ le-zero (c .loop-test .left)))
+    ∙ ap₂ (λ (m n : ℕ). m * n % 2 ^ 64) (larger .ensures) (smaller .ensures)
+    ∙ ap (λ (n : ℕ). n % 2 ^ 64) (factors (ltb (args .x) (args .y)) (args .x) (args .y))
 
 pub mul-spec : {M : Type 1} → statement M
 mul-spec =
@@ -49,9 +93,16 @@ mul-spec =
     (tie.spec
     Inv-loop
     μ-loop
-    loop-holds
-    add-if-odd-requires
+    larger-requires
     wrapping-add-u64-requires
+    wrapping-add-u64-requires-2
+    smaller-requires
+    loop-holds
+    mul-wrapping-add-u64
+    array-read-wrapping-add-u64
+    shl-wrapping-add-u64
+    wrapping-add-u64-requires-3
+    add-k
     loop-less
     loop-again
     returns)

@@ -46,6 +46,9 @@ enum-told-13 c = c .match .keys13
 enum-told-14 : tie.Need-enum-told-14
 enum-told-14 c = c .match .keys14
 
+enum-told-15 : tie.Need-enum-told-15
+enum-told-15 c = c .match .keys15
+
 returns : tie.Need-returns
 returns c = (rw (c .enum-told .given .1), lit< tt)
 
@@ -88,6 +91,9 @@ returns-13 c = (rw (c .enum-told13 .given .1), lit< tt)
 returns-14 : tie.Need-returns-14
 returns-14 c = (rw (c .enum-told14 .given .1), lit< tt)
 
+returns-15 : tie.Need-returns-15
+returns-15 c = (rw (c .enum-told15 .given .1), lit< tt)
+
 pub number-spec : {M : Type 1} → statement M
 number-spec =
     tie.close
@@ -106,6 +112,7 @@ number-spec =
     enum-told-12
     enum-told-13
     enum-told-14
+    enum-told-15
     returns
     returns-2
     returns-3
@@ -119,4 +126,5 @@ number-spec =
     returns-11
     returns-12
     returns-13
-    returns-14)
+    returns-14
+    returns-15)
