@@ -32,7 +32,8 @@ static const char *const reasons[] = {
     [PCN_UNUSED_BIT] = "an unused field or bit is not 0",
     [PCN_BAD_LIST] = "the mask list has a wrong length",
     [PCN_BAD_DESTINATION] = "the destination has a wrong length",
-    [PCN_BAD_MASK] = "the mask lacks a bit or has one beyond the width"
+    [PCN_BAD_MASK] = "the mask lacks a bit or has one beyond the width",
+    [PCN_WIDE_MULTIPLIER] = "a multiplier is wider than 32 bits"
 };
 
 static int trouble(const char *what, const char *name)

@@ -36,9 +36,9 @@ extern "C" {
 /* The refusal numbers.
 
    They are tried in this order: first 1 to 5 for the whole file, then 6 to
-   10 for record 0, then 6 to 10 for record 1, and so on, then 11, then 12 for
-   each record in turn, then 13, and at last 14 for each record in turn. The
-   first that applies is the answer.
+   9, 15 and 10 for record 0, then the same for record 1, and so on, then 11,
+   then 12 for each record in turn, then 13, and at last 14 for each record in
+   turn. The first that applies is the answer.
 
     1  The file is shorter than its header of 8 bytes.
     2  The file does not begin with the letters PCN, or byte 5 is not 0.
@@ -64,6 +64,7 @@ extern "C" {
    14  The mask at the record, in a list that the caller made, has a bit
        beyond the width, or lacks one that is called for: an output's mask
        lacks one of its bits, or a record asks for a bit that is not there.
+   15  The record is a multiplier and wider than 32 bits.
 
    A register may read a record that has not been looked at yet. Refusals 8
    and 9 then go by that record's kind byte and width byte as they stand. */
@@ -82,7 +83,8 @@ enum pcn_refusal {
     PCN_BAD_LIST = 11,
     PCN_WIDE_WORD = 12,
     PCN_BAD_DESTINATION = 13,
-    PCN_BAD_MASK = 14
+    PCN_BAD_MASK = 14,
+    PCN_WIDE_MULTIPLIER = 15
 };
 
 /* Lists.

@@ -67,6 +67,8 @@ static const struct row rows[] = {
       { 64, 256, 1024, 2048 } },
     { "cycle, multipliers", &cycle_operation, cycle_in_c, multipliers,
       { 64, 256, 1024, 2048 } },
+    { "cycle, multipliers of all widths", &cycle_operation, cycle_in_c,
+      multipliers_of_all_widths, { 64, 256, 1024, 2048 } },
     { "start", &start_operation, start_in_c, clocked_with_mul,
       { 64, 256, 1024, 2048 } }
 };

@@ -74,6 +74,7 @@ static int run_row(const struct row *row, uint32_t count, int once)
     function *library = row->operation->library;
 
     work.operation = row->operation;
+    work.renew = NULL;
     row->make(&work, count);
     if (!same_results(library, row->plain, &work)) {
         fprintf(stderr, "%s: the results differ at %" PRIu32 " records\n",

@@ -23,6 +23,8 @@ GOALS = {
     "trim_by, combinational, smallest masks": 1.2,
     "trim_by, combinational, all bits": 1.2,
     "cycle, no multipliers": 1.0,
+    "cycle, multipliers": 3.0,
+    "cycle, multipliers of all widths": 3.0,
 }
 
 

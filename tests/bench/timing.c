@@ -27,8 +27,11 @@ static double time_turns(function *call, const struct workload *work,
     uint32_t j;
 
     for (i = 0; i < turns; i++)
-        for (j = 0; j < work->files; j++)
+        for (j = 0; j < work->files; j++) {
+            if (work->renew != NULL)
+                work->renew(&work->lent[j]);
             sink = call(&work->lent[j]);
+        }
     return microseconds() - start;
 }
 

@@ -186,8 +186,9 @@ void chain(struct workload *work, uint32_t count)
 }
 
 /* The worst case of a product that is put together from sums, which takes a
-   step for each bit of a factor up to its highest: two inputs of 64 bits with
-   the highest one set, and all other records but an output multiply them. */
+   step for each bit of the smaller factor up to its highest: two inputs as
+   wide as can be with the highest one set, and all other records but an output
+   multiply them. */
 void multipliers(struct workload *work, uint32_t count)
 {
     struct rng rng = rng_for(SEED, count);
@@ -195,12 +196,69 @@ void multipliers(struct workload *work, uint32_t count)
 
     work->files = 0;
     netlist_clear(&net);
-    netlist_input(&net, 64);
-    netlist_input(&net, 64);
+    netlist_input(&net, MULTIPLIER_LIMIT);
+    netlist_input(&net, MULTIPLIER_LIMIT);
     while (net.count < count - 1)
-        netlist_add(&net, KIND_MUL, 64, 0, 1, 0, 0);
-    netlist_output(&net, 2, width_mask(64));
+        netlist_add(&net, KIND_MUL, MULTIPLIER_LIMIT, 0, 1, 0, 0);
+    netlist_output(&net, 2, width_mask(MULTIPLIER_LIMIT));
     add_file(work, &rng);
     for (i = 0; i < 2; i++)
-        own[0][1][i] = rng_word(&rng) | (uint64_t)1 << 63;
+        own[0][1][i] = (rng_word(&rng) & width_mask(MULTIPLIER_LIMIT))
+                     | (uint64_t)1 << (MULTIPLIER_LIMIT - 1);
+}
+
+/* An earlier signal of this width, from a random place on; there is one. */
+static uint32_t signal_of(struct rng *rng, uint8_t width)
+{
+    uint32_t i = rng_below(rng, net.count);
+
+    while (net.records[i].width != width)
+        i = (i + 1) % net.count;
+    return i;
+}
+
+/* One record in eight is an input, in front. Each of the others but an output
+   multiplies an input by any earlier signal: products of products alone would
+   soon be 0. */
+static void draw_multipliers(struct rng *rng, uint32_t count)
+{
+    uint32_t inputs = count / 8;
+
+    netlist_clear(&net);
+    while (net.count < inputs)
+        netlist_input(&net, (uint8_t)rng_between(rng, 1, MULTIPLIER_LIMIT));
+    while (net.count < count - 1) {
+        uint32_t a = rng_below(rng, inputs);
+        uint8_t width = net.records[a].width;
+
+        netlist_add(&net, KIND_MUL, width, a, signal_of(rng, width), 0, 0);
+    }
+    netlist_output(&net, inputs, width_mask(net.records[inputs].width));
+}
+
+/* New words at the inputs in front. */
+static void draw_words(const struct lent *lent)
+{
+    static struct rng rng = { SEED };
+    const uint8_t *file = lent->of[0].bytes;
+    uint64_t *board = words_of(lent, BOARD);
+    uint32_t i;
+
+    for (i = 0; kind_at(file, i) == KIND_INPUT; i++)
+        board[i] = rng_word(&rng) & width_mask(width_at(file, i));
+}
+
+/* Branch predictors learn how many steps each product takes, even of eight
+   designs, if the words stay the same. So each call has others. */
+void multipliers_of_all_widths(struct workload *work, uint32_t count)
+{
+    work->files = 0;
+    work->renew = draw_words;
+    while (work->files < MOST_FILES) {
+        struct rng rng = rng_for(SEED + work->files, count);
+
+        draw_multipliers(&rng, count);
+        add_file(work, &rng);
+        draw_words(&work->lent[work->files - 1]);
+    }
 }

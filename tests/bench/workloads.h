@@ -11,10 +11,12 @@ enum {
     LONGEST_FILE = HEADER_BYTES + RECORD_BYTES * COUNT_LIMIT
 };
 
-/* What the operation is lent for each design. The operation is named before
-   the designs are made. */
+/* What the operation is lent for each design; `renew`, if not null, changes it
+   before each call that is timed. The operation is named, and `renew` null,
+   before the designs are made. */
 struct workload {
     const struct operation *operation;
+    void (*renew)(const struct lent *lent);
     uint32_t files;
     struct lent lent[MOST_FILES];
 };
@@ -39,7 +41,9 @@ workload_maker combinational_smallest, combinational_all_bits;
 workload_maker clocked;
 workload_maker clocked_with_mul;
 
-/* One design for cycles that is nearly all multipliers of 64 bits. */
+/* Designs for cycles that are nearly all multipliers: one with the widest, or
+   several with all widths. */
 workload_maker multipliers;
+workload_maker multipliers_of_all_widths;
 
 #endif

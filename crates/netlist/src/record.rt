@@ -1,5 +1,5 @@
 // A record of a netlist: its kind with the operands that the kind uses, and beside it the width and the keep word.
-// Nothing is asked of a caller. What else the code knows of a kind stands in `fit` (the width rules, the number of an output), `result` and `demand`.
+// Nothing is asked of a caller. What else the code knows of a kind stands in `fit` (the width rules, the numbers of an output and a multiplier), `result` and `demand`.
 ghost use mathlib.Core.Path.{_≡_};
 ghost use mathlib.Core.Bool.{cond};
 ghost use Prim.Native.Nat.{_≤_, _<_};

@@ -1,14 +1,17 @@
--- What acceptance means: an accepted file holds a sound design of its count and has the length that the count asks for; a
--- refused one names a record number below the limit. Assumes nothing.
+-- What acceptance means: an accepted file holds a sound design of its count, with no wide multiplier, and has the length that the count asks for;
+-- a refused one names a record number below the limit. Assumes nothing.
 use mathlib.Core.Path.{_≡_, refl, sym, ap, subst, _∙_}
 use mathlib.Core.Logic.{_⊎_, inl, inr}
-use mathlib.Core.List.{List}
+use mathlib.Core.Bool.{Bool, true, cond}
+use mathlib.Core.List.{List, [], _∷_}
 use Prim.Native.Nat.{ℕ, zero, suc, _+_, _≤_, _<_}
 use native.Mathlib.Nat.{eq-or-lt-of-le}
 use native.Mathlib.Omega.{arith}
 use lib.ListN.{length}
-use Rattle.netlist.specs.Limits.{maxCount}
-use Rattle.netlist.specs.Layout.{designOf, countOf, recordStart, recordSize}
+use Rattle.netlist.specs.Kinds.{isMultiplier}
+use Rattle.netlist.specs.Limits.{maxCount, maxMultiplierWidth}
+use Rattle.netlist.specs.Layout.{designOf, recordAt, countOf, recordStart, recordSize}
+use Rattle.netlist.specs.Rules.{atMost, AllHold}
 use Rattle.netlist.specs.declared.refusal.Refusal.{Refusal}
 use Rattle.rules.specs.Fit.{wordRules}
 use Rattle.rules.specs.Check.{checkOf, checkFrom, refuseAt, firstBroken, headerRules, recordRules}
@@ -99,6 +102,15 @@ accepted file n e =
       };
       fields = λ i h. kept .each i (subst (λ (m : ℕ). i < m) same h) .1 .1 .1 .1 .1 .0;
     }
+
+-- "Files so refused are no longer accepted designs": no multiplier of an accepted file is wider than 32 bits
+pub multiplier-narrow : (file : List ℕ) (n : ℕ) → checkOf file ≡ Accepted n → (i : ℕ) → i < n → isMultiplier (recordAt file i .kind) ≡ true
+    → recordAt file i .width ≤ maxMultiplierWidth
+unfolding designOf
+multiplier-narrow file n e i h p =
+    let a = accepted file n e in
+    subst (λ (t : Bool). AllHold (cond t (atMost (recordAt file i .width) maxMultiplierWidth ∷ []) [])) p
+    (a .sound .each i (subst (λ (m : ℕ). i < m) (a .count) h) .multiplier) .0
 
 -- an accepted file may be spoken of with its own count
 pub with-count : {file : List ℕ} {n : ℕ} → Acceptance file n → Acceptance file (countOf file)
