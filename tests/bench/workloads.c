@@ -186,9 +186,9 @@ void chain(struct workload *work, uint32_t count)
 }
 
 /* The worst case of a product that is put together from sums, which takes a
-   step for each bit of the smaller factor up to its highest: two inputs as
-   wide as can be with the highest one set, and all other records but an output
-   multiply them. */
+   step for each two bits of the smaller factor up to its highest: two inputs
+   as wide as can be with the highest one set, and all other records but an
+   output multiply them. */
 void multipliers(struct workload *work, uint32_t count)
 {
     struct rng rng = rng_for(SEED, count);

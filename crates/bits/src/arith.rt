@@ -39,16 +39,11 @@ pub fn sub(x: u64, y: u64, w: u64) -> u64
     cut_to(wrapping_sub_u64(x, y), w)
 }
 
-fn larger(x: u64, y: u64) -> u64
-    ensures { λ r. ⌜ r ≡ cond (ltb x y) y x ⌝ }
+// u where x is below y, and else v.
+fn if_below(x: u64, y: u64, u: u64, v: u64) -> u64
+    ensures { λ r. ⌜ r ≡ cond (ltb x y) u v ⌝ }
 {
-    if x < y { y } else { x }
-}
-
-fn smaller(x: u64, y: u64) -> u64
-    ensures { λ r. ⌜ r ≡ cond (ltb x y) x y ⌝ }
-{
-    if x < y { x } else { y }
+    if x < y { u } else { v }
 }
 
 // The product modulo 2^64, from sums that wrap: for each two bits of the smaller factor the larger one is added 0, 1, 2 or 3 times,
@@ -56,11 +51,11 @@ fn smaller(x: u64, y: u64) -> u64
 pub fn mul(x: u64, y: u64) -> u64
     ensures { λ r. ⌜ r ≡ productAt 64 x y ⌝ }
 {
-    let a = larger(x, y);
+    let a = if_below(x, y, y, x);
     let twice = wrapping_add_u64(a, a);
     let times = [0, a, twice, wrapping_add_u64(twice, a)];
     let mut sum: u64 = 0;
-    let mut b = smaller(x, y);
+    let mut b = if_below(x, y, x, y);
     let mut k: u64 = 0;
     while 0 < b {
         sum = wrapping_add_u64(sum, times[(b % 4) as usize] << k);

@@ -1,7 +1,5 @@
 -- `bits::arith::mul` meets its contract: after k bits of the smaller factor the sum is the product with these bits alone.
 -- Assumes nothing.
-use Rattle.bits.proofs.arith.mul.Statement.{statement}
-use Rattle.bits.proofs.arith.mul.Tie as tie
 use mathlib.Core.Path.{_≡_, sym, ap, ap₂, _∙_}
 use Prim.Native.Nat.{ℕ, _+_, _*_, _/_, _%_, _^_, _<_}
 use native.Mathlib.Nat.{mod-lt, mod-one, mul-zero, div-one}
@@ -11,6 +9,8 @@ use lib.Dec.{lit<, ltb}
 use lib.Pow.{shr-shr}
 use Rattle.bits.proofs.Modulo.{shift-in, cut-short, factors, multiples, digit-step}
 use Rattle.bits.specs.Words.{cut, down, productAt}
+use Rattle.bits.proofs.arith.mul.Statement.{statement}
+use Rattle.bits.proofs.arith.mul.Tie as tie
 
 abbrev Inv-loop : tie.InvT-loop
 Inv-loop x y a twice times sum₀ b₀ k₀ sum b k = (sum ≡ productAt 64 a (cut k b₀)) × (b ≡ down k b₀)
@@ -22,11 +22,11 @@ abbrev μ-loop : tie.MeasureT-loop
 place-low : (c : tie.In-loop Inv-loop μ-loop) → c .before .loop .k < 64
 place-low c =
     let l = c .before .loop in
-    let smaller = c .before .before .smaller in
+    let smaller = c .before .before .if-below2 in
     shift-in (smaller .result) (l .k) (omega (arith, smaller .ok)) (let left = l .inv .1 in omega (arith, c .loop-test .taken))
 
-larger-requires : tie.Need-larger-requires Inv-loop μ-loop
-larger-requires c κs = tt
+if-below-requires : tie.Need-if-below-requires Inv-loop μ-loop
+if-below-requires c κs = tt
 
 wrapping-add-u64-requires : tie.Need-wrapping-add-u64-requires Inv-loop μ-loop
 wrapping-add-u64-requires c κs = tt
@@ -34,13 +34,13 @@ wrapping-add-u64-requires c κs = tt
 wrapping-add-u64-requires-2 : tie.Need-wrapping-add-u64-requires-2 Inv-loop μ-loop
 wrapping-add-u64-requires-2 c κs = tt
 
-smaller-requires : tie.Need-smaller-requires Inv-loop μ-loop
-smaller-requires c κs = tt
+if-below-requires-2 : tie.Need-if-below-requires-2 Inv-loop μ-loop
+if-below-requires-2 c κs = tt
 
 loop-holds : tie.Need-loop-holds Inv-loop μ-loop
 loop-holds c =
-    let a = c .before .before .before .larger .result in
-    let b = c .smaller .result in
+    let a = c .before .before .before .if-below .result in
+    let b = c .if-below2 .result in
     (ap (λ (n : ℕ). n % 2 ^ 64) (sym (mul-zero a) ∙ ap (λ (n : ℕ). a * n) (sym (mod-one b))), sym (div-one b))
 
 mul-wrapping-add-u64 : tie.Need-mul-wrapping-add-u64 Inv-loop μ-loop
@@ -64,10 +64,10 @@ loop-less c = omega arith
 loop-again : tie.Need-loop-again Inv-loop μ-loop
 loop-again c =
     let l = c .before .before .loop in
-    let larger = c .before .before .before .before .before .before .larger in
+    let larger = c .before .before .before .before .before .before .if-below in
     let twice = c .before .before .before .before .before .wrapping-add-u64 in
     let thrice = c .before .before .before .before .wrapping-add-u642 in
-    let b = c .before .before .before .smaller .result in
+    let b = c .before .before .before .if-below2 .result in
     let digit = multiples (larger .result) (twice .result) (thrice .result) (2 ^ 64) (omega (arith, larger .ok)) (twice .ensures) (thrice .ensures) (l .b % 4) (mod-lt (l .b) (lit< tt)) in (
       c .wrapping-add-u643 .ensures
           ∙ ap₂ (λ (s t : ℕ). (s + t * 2 ^ l .k % 2 ^ 64) % 2 ^ 64) (l .inv .0)
@@ -79,8 +79,8 @@ loop-again c =
 returns : tie.Need-returns Inv-loop μ-loop
 returns c =
     let l = c .before .loop in
-    let larger = c .before .before .before .before .before .larger in
-    let smaller = c .before .before .smaller in
+    let larger = c .before .before .before .before .before .if-below in
+    let smaller = c .before .before .if-below2 in
     let args = c .before .before .before .before .before .before .args in
     l .inv .0
     ∙ ap (λ (n : ℕ). larger .result * n % 2 ^ 64) (cut-short (smaller .result) (l .k) (sym (l .inv .1) ∙ le-zero (c .loop-test .left)))
@@ -93,10 +93,10 @@ mul-spec =
     (tie.spec
     Inv-loop
     μ-loop
-    larger-requires
+    if-below-requires
     wrapping-add-u64-requires
     wrapping-add-u64-requires-2
-    smaller-requires
+    if-below-requires-2
     loop-holds
     mul-wrapping-add-u64
     array-read-wrapping-add-u64
