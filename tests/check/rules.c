@@ -1,5 +1,6 @@
 /* Every rule at its edges, and which refusal wins.
-   Assumes the order of 01: 1 to 5, then records rising, each from 6 to 10. */
+   Assumes the order of 01: 1 to 5, then records rising, each from 6 to 9, then
+   15, then 10. */
 
 #include <stdio.h>
 #include <string.h>
@@ -62,34 +63,36 @@ static void every_length(void)
     test_end();
 }
 
-/* Breaks every choice of rules, 6 to 10 in the first add, and one of these or
-   none in the second. A file that is too short is also tried too long. */
+/* Breaks every choice of rules, from 6 on in the first add, and one of these
+   or none in the second. A file that is too short is also tried too long. */
 static void try_choice(unsigned choice, unsigned behind)
 {
     static struct file file;
     uint64_t answer = ADDS_COUNT;
-    unsigned rule;
+    unsigned i;
 
     adds_write(&file);
     file.bytes[file.length] = 0;
-    if (behind > 5)
-        answer = refused_answer(behind,
-                                adds_break(&file, behind, ADDS_SECOND));
-    for (rule = LAST_RULE; rule >= 1; rule--)
-        if (choice >> (rule - 1) & 1)
-            answer = refused_answer(rule, adds_break(&file, rule, ADDS_FIRST));
+    if (behind < RULES)
+        answer = refused_answer(rules[behind], adds_break(&file, rules[behind],
+                                                          ADDS_SECOND));
+    for (i = RULES; i-- > 0;)
+        if (choice >> i & 1)
+            answer = refused_answer(rules[i], adds_break(&file, rules[i],
+                                                         ADDS_FIRST));
     expect_bytes(file.bytes, file.length, answer);
     if (choice >> 4 & 1 && file.length >= HEADER_BYTES)
         expect_bytes(file.bytes, file.length + 2, answer);
 }
 
-static void lowest_wins(void)
+static void first_wins(void)
 {
     unsigned choice, behind;
 
-    test_begin("the lowest of 1 to 5, then the lowest record's lowest number");
-    for (choice = 0; choice < 1u << LAST_RULE; choice++)
-        for (behind = 5; behind <= LAST_RULE; behind++)
+    test_begin("the lowest of 1 to 5, then the lowest record's first: 6 to 9,"
+               " 15, 10");
+    for (choice = 0; choice < 1u << RULES; choice++)
+        for (behind = 5; behind <= RULES; behind++)
             try_choice(choice, behind);
     test_end();
 }
@@ -157,6 +160,15 @@ static void every_operand(uint8_t kind, unsigned place)
     }
 }
 
+/* The record that is tested has bits that fit or do not; a multiplier of more
+   than 32 bits is refused before that. */
+static void expect_bits(int fit)
+{
+    int is_wide = tested->kind == KIND_MUL && tested->width > 32;
+
+    expect_check(&net, is_wide ? 15 : fit ? 0 : 10, READER);
+}
+
 /* Every single bit of an unused operand, of the keep word and of k, but for
    the k of an extract or a shift, which the width rule limits. */
 static void every_bit(uint8_t kind, unsigned width)
@@ -166,20 +178,20 @@ static void every_bit(uint8_t kind, unsigned width)
     unsigned bit;
 
     reader_suited(&net, kind, width);
-    expect_check(&net, 0, 0);
+    expect_bits(1);
     for (bit = 16 * kind_operands(kind); bit < 48; bit++) {
         tested->operand[bit / 16] = 1u << bit % 16;
-        expect_check(&net, 10, READER);
+        expect_bits(0);
         tested->operand[bit / 16] = 0;
     }
     for (bit = 0; bit < 64; bit++) {
         tested->keep = (uint64_t)1 << bit;
-        expect_check(&net, bit < width ? 0 : 10, READER);
+        expect_bits(bit < width);
     }
     tested->keep = 0;
     for (bit = 0; bit < 64 && !is_place; bit++) {
         tested->k = (uint64_t)1 << bit;
-        expect_check(&net, is_state && bit < width ? 0 : 10, READER);
+        expect_bits(is_state && bit < width);
     }
 }
 
@@ -222,11 +234,15 @@ static void every_record(void)
 
 static void check_records(void)
 {
-    unsigned kind;
+    unsigned kind, width;
 
     test_begin("7, 8, 10: every width, operand and bit of every kind");
     for (kind = 0; kind < KIND_COUNT; kind++)
         every_field((uint8_t)kind);
+    test_end();
+    test_begin("15: every width above 32 of a multiplier, before 10");
+    for (width = 33; width <= 64; width++)
+        every_bit(KIND_MUL, width);
     test_end();
     test_begin("6: every kind above 18");
     reader_suited(&net, KIND_INPUT, 8);
@@ -241,7 +257,7 @@ static void check_records(void)
 }
 
 #define OF_ONE_WIDTH \
-    { KIND_AND, KIND_OR, KIND_XOR, KIND_ADD, KIND_SUB, KIND_MUL }
+    { KIND_AND, KIND_OR, KIND_XOR, KIND_ADD, KIND_SUB }
 #define SHIFTS { KIND_LEFT_SHIFT, KIND_RIGHT_SHIFT, KIND_ARITHMETIC_SHIFT }
 #define COMPARISONS { KIND_EQUAL, KIND_BELOW, KIND_SIGNED_BELOW }
 
@@ -265,6 +281,9 @@ static const struct grid {
     { "9: bit by bit and sums: another width", "yxx10", 64, OF_ONE_WIDTH },
     { "9: bit by bit and sums: another a", "xyx10", 64, OF_ONE_WIDTH },
     { "9: bit by bit and sums: another b", "xxy10", 64, OF_ONE_WIDTH },
+    { "9, else 15: mul: another width", "yxx10", 32, { KIND_MUL } },
+    { "9, else 15: mul: another a", "xyx10", 32, { KIND_MUL } },
+    { "9, else 15: mul: another b", "xxy10", 32, { KIND_MUL } },
     { "9: mux: any selector", "xyxx0", 64, { KIND_MUX } },
     { "9: mux: another b", "x1yx0", 64, { KIND_MUX } },
     { "9: mux: another c", "x1xy0", 64, { KIND_MUX } },
@@ -301,11 +320,12 @@ static uint64_t value(char letter, const unsigned *xyz)
     }
 }
 
-/* Whether such a record is accepted; it must be 9 otherwise. */
+/* Whether such a record is accepted; it must be 9 otherwise, and 15 for a
+   multiplier whose widths fit. */
 static unsigned long fits(uint8_t kind, const char *letters,
                           const unsigned *xyz)
 {
-    unsigned widths[4];
+    unsigned widths[4], refusal;
     uint64_t answer;
     int i;
 
@@ -315,7 +335,9 @@ static unsigned long fits(uint8_t kind, const char *letters,
     answer = known_call(&check_operation, &net).answer;
     if (answer == net.count)
         return 1;
-    demand_answer(answer, refused_answer(9, READER));
+    refusal = kind == KIND_MUL && widths[1] == widths[0]
+        && widths[2] == widths[0] ? 15 : 9;
+    demand_answer(answer, refused_answer(refusal, READER));
     return 0;
 }
 
@@ -357,7 +379,7 @@ void check_rules(void)
     every_value("3: every version but 1", 3, 2, 3);
     every_value("4: every count above 2,048, and 5 below", 6, 2, 4);
     every_length();
-    lowest_wins();
+    first_wins();
     reading_ahead();
     check_records();
     every_width_rule();

@@ -88,15 +88,18 @@ static void note_numbers(const struct record *r, const struct words *w)
     int wide = r->width == 64;
     int carries = r->kind == KIND_ADD && w->a > full - w->b;
     int borrows = r->kind == KIND_SUB && w->a < w->b;
-    int cuts = r->kind == KIND_MUL && w->b != 0 && w->a > full / w->b;
+    int multiplies = r->kind == KIND_MUL && w->a > 1 && w->b > 1;
+    int cuts = multiplies && w->a > full / w->b;
+    int widest = r->width == MULTIPLIER_LIMIT;
     int equal = r->kind == KIND_EQUAL, below = r->kind == KIND_BELOW;
 
     met("sums that drop a carry", carries && !wide);
     met("sums of 64 bits that drop a carry", carries && wide);
     met("differences below 0", borrows && !wide);
     met("differences of 64 bits below 0", borrows && wide);
-    met("products cut", cuts && !wide);
-    met("products of 64 bits cut", cuts && wide);
+    met("products cut", cuts && !widest);
+    met("products of 32 bits cut", cuts && widest);
+    met("products not cut", multiplies && !cuts);
     met("equal operands", equal && w->a == w->b);
     met("unequal ones", equal && w->a != w->b);
     met("operands below", below && w->a < w->b);

@@ -41,7 +41,8 @@ static void begin_netlist(unsigned width)
     netlist_input(&net, (uint8_t)width);
 }
 
-/* All kinds, and a register for each of them that gets its value. */
+/* All kinds that may have this width, and a register for each of them that
+   gets its value. */
 static void make_all_kinds(struct rng *rng, unsigned width, enum keeps keeps)
 {
     unsigned cut = rng_between(rng, 1, width);
@@ -57,7 +58,8 @@ static void make_all_kinds(struct rng *rng, unsigned width, enum keeps keeps)
     for (kind = KIND_AND; kind < KIND_COUNT; kind++)
         if (kind_shifts(kind))
             add(kind, width, ONE, 0, rng_below(rng, width));
-        else if (kind != KIND_MUX)
+        else if (kind != KIND_MUX
+                 && (kind != KIND_MUL || width <= MULTIPLIER_LIMIT))
             add(kind, kind_compares(kind) ? 1 : width, ONE, TWO, 0);
     netlist_add(&net, KIND_MUX, (uint8_t)width, SELECTOR, ONE, TWO, 0);
     for (i = 0, count = net.count; i < count; i++)

@@ -195,13 +195,8 @@ void change_netlist(struct rng *rng, struct netlist *net)
         changes[draw(rng, sizeof changes)](rng, net);
 }
 
-static void break_record(struct rng *rng, struct netlist *net)
-{
-    damage_record(rng, net, rng_between(rng, 6, 10));
-}
-
 static change *const breaks[] = {
-    break_record, break_record, break_record, break_record, damage_edge,
+    damage_rule, damage_rule, damage_rule, damage_rule, damage_edge,
     damage_kind, damage_order, damage_far_k
 };
 

@@ -99,16 +99,17 @@ static void fit_mux(const struct netlist *net, struct record *record,
     operand[0] = operand[2];
 }
 
-/* Operands and width of a kind that reads earlier records. Without one to
-   read it becomes an input. */
+/* Operands and width of a kind that reads earlier records. Without one that it
+   may read it becomes an input. */
 static void fit_reader(const struct netlist *net, struct record *record,
                        uint32_t number)
 {
+    unsigned most = record->kind == KIND_MUL ? MULTIPLIER_LIMIT : WIDTH_LIMIT;
     uint32_t *operand = record->operand;
     uint32_t a = number;
 
     if (number > 0)
-        a = near_record(net, operand[0], number, 1, WIDTH_LIMIT);
+        a = near_record(net, operand[0], number, 1, most);
     if (a == number) {
         record->kind = KIND_INPUT;
         return;

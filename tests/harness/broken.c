@@ -20,8 +20,8 @@ static void make_files(struct rng *rng)
         netlist_write(&case_nets[i], &files[i]);
 }
 
-/* The files, one of which is broken, with lists of so many lengths: numbers 1
-   to 10 go before all that is said of lists. */
+/* The files, one of which is broken, with lists of so many lengths: what is
+   said of files goes before all that is said of lists. */
 static void expect_rule(struct rng *rng, unsigned rule, uint32_t record)
 {
     int i;
@@ -37,7 +37,7 @@ static void expect_rule(struct rng *rng, unsigned rule, uint32_t record)
 
 void broken_rules(struct rng *rng, unsigned turn)
 {
-    unsigned broken, rule = turn + 1;
+    unsigned broken, rule = rules[turn];
 
     for (broken = 0; broken < files_of(tried); broken++) {
         make_files(rng);
@@ -46,12 +46,15 @@ void broken_rules(struct rng *rng, unsigned turn)
     }
 }
 
-/* Shifts behind an input of 8 bits and one of 9, and the lowest rule that each
-   breaks; they are tried as all three kinds. */
-static const struct {
+/* A record behind two inputs, and the first rule that it breaks. */
+struct broken {
     unsigned rule;
-    struct record shift;
-} shifts[SHIFT_BREAKS] = {
+    struct record record;
+};
+
+/* Shifts behind an input of 8 bits and one of 9; they are tried as all three
+   kinds. */
+static const struct broken shifts[SHIFT_BREAKS] = {
     { 8, ROW(LEFT_SHIFT, 8, 2, 0, 0, 3) },
     { 8, ROW(LEFT_SHIFT, 8, 2, 0, 0, 8) },
     { 9, ROW(LEFT_SHIFT, 8, 1, 0, 0, 3) },
@@ -68,22 +71,48 @@ static const struct {
     { 10, KEEPING(0x100, LEFT_SHIFT, 8, 0, 0, 0, 3) }
 };
 
-void broken_shifts(struct rng *rng, unsigned turn)
+/* Multipliers behind an input of 33 bits and one of 64. */
+static const struct broken multipliers[MULTIPLIER_BREAKS] = {
+    { 8, OF_TWO(MUL, 33, 0, 2) },
+    { 9, OF_TWO(MUL, 32, 0, 0) },
+    { 9, OF_TWO(MUL, 33, 0, 1) },
+    { 9, OF_TWO(MUL, 64, 0, 1) },
+    { 9, ROW(MUL, 64, 0, 0, 1, 1) },
+    { 15, OF_TWO(MUL, 33, 0, 0) },
+    { 15, OF_TWO(MUL, 64, 1, 1) },
+    { 15, ROW(MUL, 33, 0, 0, 1, 0) },
+    { 15, ROW(MUL, 64, 1, 1, 0, 1) },
+    { 15, KEEPING(0x200000000u, MUL, 33, 0, 0, 0, 0) }
+};
+
+static void expect_broken(struct rng *rng, const struct broken *broken,
+                          uint8_t kind, uint8_t first, uint8_t second)
 {
     static struct netlist net;
-    unsigned broken, i = turn / 3;
+    unsigned i;
 
     netlist_clear(&net);
-    netlist_input(&net, 8);
-    netlist_input(&net, 9);
+    netlist_input(&net, first);
+    netlist_input(&net, second);
     netlist_add(&net, 0, 8, 0, 0, 0, 0);
-    net.records[2] = shifts[i].shift;
-    net.records[2].kind = (uint8_t)(KIND_LEFT_SHIFT + turn % 3);
-    for (broken = 0; broken < files_of(tried); broken++) {
+    net.records[2] = broken->record;
+    net.records[2].kind = kind;
+    for (i = 0; i < files_of(tried); i++) {
         make_files(rng);
-        netlist_write(&net, &files[broken]);
-        expect_rule(rng, shifts[i].rule, 2);
+        netlist_write(&net, &files[i]);
+        expect_rule(rng, broken->rule, 2);
     }
+}
+
+void broken_shifts(struct rng *rng, unsigned turn)
+{
+    expect_broken(rng, &shifts[turn / 3],
+                  (uint8_t)(KIND_LEFT_SHIFT + turn % 3), 8, 9);
+}
+
+void broken_multipliers(struct rng *rng, unsigned turn)
+{
+    expect_broken(rng, &multipliers[turn], KIND_MUL, 33, 64);
 }
 
 /* The refusal of the first file that is refused, or 0. */

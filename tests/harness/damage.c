@@ -12,15 +12,17 @@ enum { KIND = 3, WIDTH, K, KEEP, FIELDS };
 
 enum { TRIES = 64 };
 
-/* One of many records drawn, of a kind from `least` to `most` if any is. */
+/* One of many records drawn, of a kind from `least` to `most` and at least of
+   this width if any is. */
 static uint32_t find(struct rng *rng, const struct netlist *net, uint8_t least,
-                     uint8_t most)
+                     uint8_t most, uint8_t width)
 {
     uint32_t number = rng_below(rng, net->count);
     int tries;
 
     for (tries = 0; tries < TRIES && (net->records[number].kind < least
-                                      || net->records[number].kind > most);
+                                      || net->records[number].kind > most
+                                      || net->records[number].width < width);
          tries++)
         number = rng_below(rng, net->count);
     return number;
@@ -35,7 +37,7 @@ static uint32_t edge_operand(struct rng *rng, const struct netlist *net,
 
     edges[6] = rng_below(rng, 65536);
     edges[7] = rng_below(rng, net->count);
-    edges[8] = find(rng, net, KIND_OUTPUT, KIND_OUTPUT);
+    edges[8] = find(rng, net, KIND_OUTPUT, KIND_OUTPUT, 0);
     edges[9] = 1u << rng_below(rng, 16);
     return edges[rng_below(rng, sizeof edges / sizeof *edges)];
 }
@@ -111,12 +113,14 @@ static void break_width_rule(struct rng *rng, struct record *record,
         record->width = (uint8_t)rng_between(rng, 1, WIDTH_LIMIT);
 }
 
-/* 8 and 9 are broken in a record that reads others, and 10 in an operand that
-   is not used, in k or in the keep word. */
+/* 8 and 9 are broken in a record that reads others, 10 in an operand that is
+   not used, in k or in the keep word, and 15 in a record that mostly has the
+   width of its operands. */
 void damage_record(struct rng *rng, struct netlist *net, unsigned refusal)
 {
-    uint32_t reader = find(rng, net, KIND_REGISTER, KIND_COUNT - 1);
+    uint32_t reader = find(rng, net, KIND_REGISTER, KIND_COUNT - 1, 0);
     unsigned read = kind_operands(net->records[reader].kind);
+    uint32_t wide = find(rng, net, KIND_AND, KIND_SUB, MULTIPLIER_LIMIT + 1);
     uint32_t any = rng_below(rng, net->count);
     unsigned unread = rng_between(rng, kind_operands(net->records[any].kind),
                                   KIND + 1);
@@ -127,8 +131,17 @@ void damage_record(struct rng *rng, struct netlist *net, unsigned refusal)
         set_field(rng, net, reader, rng_below(rng, read));
     else if (refusal == 9)
         break_width_rule(rng, &net->records[reader], reader);
+    else if (refusal == 15)
+        net->records[wide].kind = KIND_MUL;
     else
         set_field(rng, net, any, unread < KIND ? unread : unread + K - KIND);
+}
+
+void damage_rule(struct rng *rng, struct netlist *net)
+{
+    static const uint8_t refusals[] = { 6, 7, 8, 9, 10, 15 };
+
+    damage_record(rng, net, refusals[rng_below(rng, sizeof refusals)]);
 }
 
 void damage_edge(struct rng *rng, struct netlist *net)
@@ -163,8 +176,8 @@ void damage_far_k(struct rng *rng, struct netlist *net)
 {
     int is_shift = rng_once_in(rng, 2);
     uint32_t number = is_shift
-        ? find(rng, net, KIND_LEFT_SHIFT, KIND_ARITHMETIC_SHIFT)
-        : find(rng, net, KIND_EXTRACT, KIND_EXTRACT);
+        ? find(rng, net, KIND_LEFT_SHIFT, KIND_ARITHMETIC_SHIFT, 0)
+        : find(rng, net, KIND_EXTRACT, KIND_EXTRACT, 0);
     struct record *record = &net->records[number];
 
     if (is_shift && rng_once_in(rng, 2))
@@ -318,7 +331,7 @@ static void several_breaks(struct rng *rng, struct netlist *broken)
     if (rng_once_in(rng, 2))
         design_make(rng, broken, rng_between(rng, 2, 4));
     while (breaks-- > 0)
-        damage_record(rng, broken, rng_between(rng, 6, 10));
+        damage_rule(rng, broken);
 }
 
 static void sometimes_header(struct rng *rng, struct file *file)
@@ -341,7 +354,7 @@ const struct family families[FAMILIES] = {
     { 1, NULL, NULL, 1000 }, { 2, NULL, NULL, 1000 }, { 3, NULL, NULL, 1000 },
     { 4, NULL, NULL, 1000 }, { 5, NULL, NULL, 1000 }, { 6, NULL, NULL, 1000 },
     { 7, NULL, NULL, 1000 }, { 8, NULL, NULL, 2000 }, { 9, NULL, NULL, 2000 },
-    { 10, NULL, NULL, 2000 },
+    { 10, NULL, NULL, 2000 }, { 15, NULL, NULL, 2000 },
     { 0, several_breaks, sometimes_header, 4000 },
     { 0, several_edges, NULL, 4000 }, { 0, damage_kind, NULL, 2000 },
     { 0, damage_order, NULL, 1000 }, { 0, damage_far_k, NULL, 1500 },

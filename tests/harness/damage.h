@@ -11,10 +11,13 @@
 typedef void damage_records(struct rng *rng, struct netlist *net);
 typedef void damage_bytes(struct rng *rng, struct file *file);
 
-/* Aims at one refusal from 6 to 10 in one record, or from 1 to 5 in the
-   written file. */
+/* Aims at one refusal from 6 to 10, or at 15, in one record, or from 1 to 5 in
+   the written file. */
 void damage_record(struct rng *rng, struct netlist *net, unsigned refusal);
 void damage_header(struct rng *rng, struct file *file, unsigned refusal);
+
+/* Aims at any of those in one record. */
+damage_records damage_rule;
 
 /* Sets one field of one record to a value at the edge of some rule, changes a
    kind to another valid one, copies a record over another one or swaps two,

@@ -130,12 +130,15 @@ static void make_shift(struct rng *rng, struct netlist *net, uint8_t kind)
     netlist_add(net, kind, width, a, 0, 0, k);
 }
 
+/* How often a kind that reads narrow records only looks for them. */
+enum { TRIES = 4 };
+
 /* False when no two narrow records are found in a few tries. */
 static int make_concat(struct rng *rng, struct netlist *net)
 {
     int tries;
 
-    for (tries = 0; tries < 4; tries++) {
+    for (tries = 0; tries < TRIES; tries++) {
         uint32_t a = readable_of(rng, ANY);
         uint32_t b = readable_of(rng, ANY);
         unsigned width = net->records[a].width + net->records[b].width;
@@ -163,15 +166,23 @@ static int make_mux(struct rng *rng, struct netlist *net)
     return 1;
 }
 
-static void make_pair(struct rng *rng, struct netlist *net, uint8_t kind)
+/* False when a multiplier finds no narrow record in a few tries. */
+static int make_pair(struct rng *rng, struct netlist *net, uint8_t kind)
 {
-    uint32_t a = readable_of(rng, ANY);
-    uint8_t width = net->records[a].width;
-    uint32_t b = readable_of(rng, width);
+    unsigned most = kind == KIND_MUL ? MULTIPLIER_LIMIT : WIDTH_LIMIT;
+    int tries;
 
-    if (kind_compares(kind))
-        width = 1;
-    netlist_add(net, kind, width, a, b, 0, 0);
+    for (tries = 0; tries < TRIES; tries++) {
+        uint32_t a = readable_of(rng, ANY);
+        uint8_t width = net->records[a].width;
+
+        if (width <= most) {
+            netlist_add(net, kind, kind_compares(kind) ? 1 : width, a,
+                        readable_of(rng, width), 0, 0);
+            return 1;
+        }
+    }
+    return 0;
 }
 
 /* Adds a record of this kind that reads earlier ones; false if it cannot. */
@@ -199,8 +210,7 @@ static int make_reader(struct rng *rng, struct netlist *net, uint8_t kind)
         make_shift(rng, net, kind);
         return 1;
     default:
-        make_pair(rng, net, kind);
-        return 1;
+        return make_pair(rng, net, kind);
     }
 }
 

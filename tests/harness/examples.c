@@ -61,18 +61,21 @@ void example_shift_chain(struct netlist *net)
     worked_make(net, &paper_examples[SHIFT_CHAIN]);
 }
 
-/* The bytes that break rules of the header, and of an add of 8 bits: the
-   input of 9 bits is no operand for it. */
+const unsigned rules[RULES] = { 1, 2, 3, 4, 5, 6, 7, 8, 9, 15, 10 };
+
+/* The bytes that break rules of the header, and of an add of 33 bits: the
+   input of 9 bits is no operand for it, and as a multiplier it is too wide. */
 static const struct {
     uint8_t place, value;
-} breaks[LAST_RULE + 1] = {
+} breaks[] = {
     { 0, 0 }, { 0, 0 }, { 5, 1 }, { 3, 2 }, { 7, 16 }, { 0, 0 },
-    { 0, KIND_COUNT }, { 1, WIDTH_LIMIT + 1 }, { 3, 255 }, { 4, 2 }, { 6, 1 }
+    { 0, KIND_COUNT }, { 1, WIDTH_LIMIT + 1 }, { 3, 255 }, { 4, 2 }, { 6, 1 },
+    [15] = { 0, KIND_MUL }
 };
 
 static const struct worked adds = {
-    "adds", DESIGN(INPUT(8), INPUT(8), INPUT(9), OF_TWO(ADD, 8, 0, 1),
-                   OF_TWO(ADD, 8, 0, 1)), { 0 }
+    "adds", DESIGN(INPUT(33), INPUT(33), INPUT(9), OF_TWO(ADD, 33, 0, 1),
+                   OF_TWO(ADD, 33, 0, 1)), { 0 }
 };
 
 void adds_write(struct file *file)

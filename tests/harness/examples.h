@@ -24,12 +24,16 @@ void example_counter(struct netlist *net);
 void example_shift_chain(struct netlist *net);
 
 /* A file of three inputs and two adds, in which each rule can be broken. */
-enum { ADDS_FIRST = 3, ADDS_SECOND, ADDS_COUNT, LAST_RULE = 10 };
+enum { ADDS_FIRST = 3, ADDS_SECOND, ADDS_COUNT, RULES = 11 };
+
+/* The numbers of the rules in the order in which they are tried. */
+extern const unsigned rules[RULES];
 
 void adds_write(struct file *file);
 
-/* Breaks a rule from 1 on and gives the record that the refusal names; from 6
-   on it is this add. Each break changes a byte of its own or the length. */
+/* Breaks a rule and gives the record that the refusal names; from 6 on it is
+   this add. Each break changes a byte of its own or the length, but for 6 and
+   15, which change the kind. */
 uint32_t adds_break(struct file *file, unsigned rule, uint32_t add);
 
 #endif

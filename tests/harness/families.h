@@ -6,7 +6,7 @@
 
 #include "damage.h"
 
-/* The damage of a family: what it aims at from 1 to 10, or else what is done
+/* The damage of a family: what it aims at, 1 to 10 or 15, or else what is done
    to the records of a design and then to the written bytes, null for none. */
 struct family {
     unsigned aim;
@@ -15,7 +15,7 @@ struct family {
     unsigned long files;
 };
 
-enum { FAMILIES = 20 };
+enum { FAMILIES = 21 };
 
 extern const struct family families[FAMILIES];
 

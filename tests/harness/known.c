@@ -53,6 +53,8 @@ unsigned least_width(uint8_t kind)
 
 unsigned most_width(uint8_t kind)
 {
+    if (kind == KIND_MUL)
+        return MULTIPLIER_LIMIT;
     return kind_compares(kind) ? 1 : 64;
 }
 

@@ -79,9 +79,10 @@ struct parameter {
     unsigned refusal; /* of a list that has another length */
 };
 
-/* The set of the refusals that an operation can give. */
+/* The set of the refusals that an operation can give. 15 is in all of them,
+   since it is about the file. */
 #define REFUSAL(number) ((uint64_t)1 << (number))
-#define REFUSALS_TO(last) ((REFUSAL(last) - 1) * 2)
+#define REFUSALS_TO(last) ((REFUSAL(last) - 1) * 2 | REFUSAL(15))
 
 /* What is wrong with a call in the words of the paper, or null; no model is
    asked. */

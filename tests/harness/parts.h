@@ -33,11 +33,12 @@ typedef void part(struct rng *rng, unsigned turn);
 part memory_forbidden, memory_alignments, memory_neighbours,
     memory_old_contents, memory_earlier_calls;
 part wrong_lengths, huge_lengths;
-part broken_rules, broken_shifts, damaged_files;
+part broken_rules, broken_shifts, broken_multipliers, damaged_files;
 part valid_designs, valid_sizes, spoilt_words;
 
-/* So many broken shifts are tried, each as three kinds and in its own turn. */
-enum { SHIFT_BREAKS = 14 };
+/* So many broken shifts are tried, each as three kinds and in its own turn, and
+   so many broken multipliers. */
+enum { SHIFT_BREAKS = 14, MULTIPLIER_BREAKS = 10 };
 
 /* Judges the valid designs of all operations by a named test. */
 void judge_designs(void);

@@ -3,6 +3,7 @@
 
 #include <stdio.h>
 
+#include "examples.h"
 #include "operations.h"
 #include "options.h"
 #include "parts.h"
@@ -50,9 +51,11 @@ static const struct {
     { "earlier calls leave nothing behind", memory_earlier_calls, 200, NONE },
     { "each length wrong, and each two", wrong_lengths, 13, LISTS_TOO },
     { "lengths that are right but for 2^32 more", huge_lengths, 3, NONE },
-    { "each rule broken, with lists of any length", broken_rules, 10, NONE },
+    { "each rule broken, with lists of any length", broken_rules, RULES, NONE },
     { "each rule broken in a shift", broken_shifts, 3 * SHIFT_BREAKS, NONE },
-    { "damaged files of all families", damaged_files, 37500, NONE },
+    { "each rule broken in a multiplier", broken_multipliers,
+      MULTIPLIER_BREAKS, NONE },
+    { "damaged files of all families", damaged_files, 39500, NONE },
     { "valid designs of all styles", valid_designs, 18000, NONE },
     { "designs of 0, 1, 2 and 2,048 records", valid_sizes, 1611, NONE },
     { "words and numbers that are refused", spoilt_words, 5000, WORDS_TOO },

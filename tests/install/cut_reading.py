@@ -22,6 +22,7 @@ REASONS = {
     9: "the widths do not fit as the kind demands",
     10: "an unused field or bit is not 0",
     14: "the mask lacks a bit or has one beyond the width",
+    15: "a multiplier is wider than 32 bits",
 }
 
 

@@ -71,7 +71,7 @@ def many_files(tests):
         tests.end(f"cut: {len(group)} files: {name}")
 
     # An output is cared for in full, so it never loses a bit.
-    if tests.reading.met != {*range(1, 11), *KINDS} - {"output"}:
+    if tests.reading.met != {*range(1, 11), 15, *KINDS} - {"output"}:
         tests.fault(f"only {tests.reading.met}")
     if "bits cut: 131072, records cut: 2048\n" not in \
             tests.reading.of(FULL).text:

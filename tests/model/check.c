@@ -1,4 +1,4 @@
-/* The plain model's check of a netlist file, refusals 1 to 10 of 01.
+/* The plain model's check of a netlist file, refusals 1 to 10 and 15 of 01.
    Assumes that `file` points to `length` readable bytes. */
 
 #include "model.h"
@@ -125,7 +125,7 @@ static int bits_fit(const struct record *record, unsigned used)
     return 1;
 }
 
-/* Refusals 6 to 10 for one record, or 0. */
+/* Refusals 6 to 10 and 15, which goes before 10, for one record, or 0. */
 static unsigned record_refusal(const uint8_t *file, uint32_t number,
                                uint32_t count)
 {
@@ -141,6 +141,8 @@ static unsigned record_refusal(const uint8_t *file, uint32_t number,
         return 8;
     if (!widths_fit(file, &record))
         return 9;
+    if (record.kind == KIND_MUL && record.width > MULTIPLIER_LIMIT)
+        return 15;
     if (!bits_fit(&record, used))
         return 10;
     return 0;

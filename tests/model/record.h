@@ -9,6 +9,7 @@
 
 enum {
     WIDTH_LIMIT = 64,
+    MULTIPLIER_LIMIT = 32,
     COUNT_LIMIT = 2048,
     HEADER_BYTES = 8,
     RECORD_BYTES = 24

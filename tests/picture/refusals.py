@@ -14,6 +14,7 @@ GOOD = "1 8 4\n0 8 000000000000000f\n"
 
 NEVER_PRINTED = [
     "refused 0 record 0\n", "refused 11 record 0\n", "refused 12 record 3\n",
+    "refused 14 record 3\n", "refused 16 record 3\n",
     "refused 3 record 1\n", "refused 9 record 2048\n", "refused 9 record 5",
     "refused 9 record 5\n\n", "refused 09 record 5\n", "refused 9 record\n",
     "refused 9  record 5\n", "Refused 9 record 5\n", "refused 9 record -1\n",
@@ -89,7 +90,7 @@ def each(tests, texts, words="", status=2):
 
 
 def broken_texts(tests):
-    for number in range(1, 11):
+    for number in (*range(1, 11), 15):
         for record in (0,) if number < 6 else (0, 7, 2047):
             each(tests, [f"refused {number} record {record}\n"],
                  f"refusal {number}, record {record} ", 1)

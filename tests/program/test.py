@@ -1,14 +1,15 @@
 """Tests of the program masks: test.py PROGRAM BUILD EXAMPLES.
 Assumes PYTHONPATH as in tests/run, and in BUILD the tools made there."""
 
+import struct
 import sys
 import tempfile
 
 import streams
 from counting import arguments
 from masks_lines import lines_of
-from runs import (FULL, FULL_TEXT, MOST_RECORDS, Tests, cut, emptied, header,
-                  random_files, refused, samples, wires)
+from runs import (FULL, FULL_TEXT, MOST_RECORDS, RECORD, Tests, cut, emptied,
+                  header, random_files, refused, samples, wires)
 
 SEED = 20240611
 
@@ -56,6 +57,16 @@ def example_files(tests):
     if new != kept:
         tests.fault("other files are beside it")
     tests.end("make.py writes the example files")
+
+
+def squares(tests):
+    for width, right in ((32, lines_of([(32, 0)] * 2)),
+                         (33, refused(15, 1)), (64, refused(15, 1))):
+        data = header(2) + b"".join(
+            struct.pack(RECORD, kind, width, 0, 0, 0, 0, 2 ** width - 1)
+            for kind in (0, 12))
+        tests.expect(f"width {width}", right, data=data)
+    tests.end("a square of 32 bits is accepted, one of 33 or 64 is refused")
 
 
 def lengths(tests):
@@ -136,6 +147,6 @@ def random_inputs(tests):
 
 if __name__ == "__main__":
     sys.exit(Tests(*arguments()).all(
-        example_texts, example_files, lengths, long_file, pipes, random_inputs,
-        streams.redirections, streams.broken_off, streams.readers,
-        streams.holes))
+        example_texts, example_files, squares, lengths, long_file, pipes,
+        random_inputs, streams.redirections, streams.broken_off,
+        streams.readers, streams.holes))

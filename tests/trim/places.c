@@ -119,7 +119,7 @@ static void try_readers(struct rng *rng, uint8_t kind, unsigned width)
 
 static void every_kind(void)
 {
-    static const unsigned widths[] = { 1, 2, 8, 33, 63, 64 };
+    static const unsigned widths[] = { 1, 2, 8, 32, 33, 63, 64 };
     struct rng rng = rng_for(FIRST, 0);
     unsigned kind, i;
 
