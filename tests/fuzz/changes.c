@@ -195,9 +195,27 @@ void change_netlist(struct rng *rng, struct netlist *net)
         changes[draw(rng, sizeof changes)](rng, net);
 }
 
+/* A record becomes the square of the next wide signal below it. Its c, k and
+   keep word stay, so they may be wrong for a multiplier as well. */
+static void make_wide_square(struct rng *rng, struct netlist *net)
+{
+    uint32_t number = rng_below(rng, net->count), a;
+    struct record *record = &net->records[number];
+
+    for (a = number; a-- > 0;) {
+        if (net->records[a].width <= MULTIPLIER_LIMIT
+            || net->records[a].kind == KIND_OUTPUT)
+            continue;
+        record->kind = KIND_MUL;
+        record->width = net->records[a].width;
+        record->operand[0] = record->operand[1] = a;
+        return;
+    }
+}
+
 static change *const breaks[] = {
     damage_rule, damage_rule, damage_rule, damage_rule, damage_edge,
-    damage_kind, damage_order, damage_far_k
+    damage_kind, damage_order, damage_far_k, make_wide_square
 };
 
 /* A register that reads a broken record ahead comes first, since that takes a
