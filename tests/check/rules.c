@@ -1,6 +1,6 @@
 /* Every rule at its edges, and which refusal wins.
-   Assumes the order of 01: 1 to 5, then records rising, each from 6 to 9, then
-   15, then 10. */
+   Assumes the order of 01 and #106: 1 to 5, then records rising, each from 6
+   to 9, then 15, then 10. */
 
 #include <stdio.h>
 #include <string.h>

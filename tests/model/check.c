@@ -1,4 +1,4 @@
-/* The plain model's check of a netlist file, refusals 1 to 10 and 15 of 01.
+/* The plain model's check of a netlist file, refusals 1 to 10 and 15.
    Assumes that `file` points to `length` readable bytes. */
 
 #include "model.h"

@@ -70,11 +70,11 @@ shift-away x k g =
     ∙ ap (λ (n : ℕ). x * n % 2 ^ 64) (pow-add 2 (d .0) 64)
     ∙ ap (λ (n : ℕ). n % 2 ^ 64) (sym (mul-assoc x (2 ^ d .0) (2 ^ 64))) ∙ mul-mod-left (x * 2 ^ d .0) (2 ^ 64)
 
--- a word that is not short of 2^k has more places than k
+-- where something is left of a word k places down, k is one of its places
 pub shift-in : (x k : ℕ) → x < 2 ^ 64 → 0 < x / 2 ^ k → k < 64
 shift-in x k h g = lt-of-not-le (λ l. let e = shift-out x k h l in omega arith)
 
--- and the k low bits of a word that is short of it are the word
+-- and where nothing is left, its k low bits are all of it
 pub cut-short : (x k : ℕ) → x / 2 ^ k ≡ 0 → x % 2 ^ k ≡ x
 cut-short x k e = let s = ap (λ (n : ℕ). n * 2 ^ k + x % 2 ^ k) (sym e) ∙ split x k in omega arith
 
@@ -94,8 +94,8 @@ multiples a twice thrice m h e f (suc (suc (suc zero))) g =
 multiples a twice thrice m h e f (suc (suc (suc (suc d)))) g = absurd (omega arith)
 
 -- one step of the product: what the k low bits of b called for, and the multiple that the next j call for, moved up to their place
-pub digit-step : (a b k j m : ℕ) → (a * (b % 2 ^ k) % m + a * (b / 2 ^ k % 2 ^ j) % m * 2 ^ k % m) % m ≡ a * (b % 2 ^ (k + j)) % m
-digit-step a b k j m =
+pub product-step : (a b k j m : ℕ) → (a * (b % 2 ^ k) % m + a * (b / 2 ^ k % 2 ^ j) % m * 2 ^ k % m) % m ≡ a * (b % 2 ^ (k + j)) % m
+product-step a b k j m =
     mod-add-mod low m (a * d % m * 2 ^ k % m)
     ∙ ap (λ (n : ℕ). (low + n) % m) (mul-mod-l (a * d) (2 ^ k) m)
     ∙ add-mod-mod low (a * d * 2 ^ k) m

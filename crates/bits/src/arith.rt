@@ -51,15 +51,15 @@ fn if_below(x: u64, y: u64, u: u64, v: u64) -> u64
 pub fn mul(x: u64, y: u64) -> u64
     ensures { λ r. ⌜ r ≡ productAt 64 x y ⌝ }
 {
-    let a = if_below(x, y, y, x);
-    let twice = wrapping_add_u64(a, a);
-    let times = [0, a, twice, wrapping_add_u64(twice, a)];
+    let larger = if_below(x, y, y, x);
+    let twice = wrapping_add_u64(larger, larger);
+    let times = [0, larger, twice, wrapping_add_u64(twice, larger)];
     let mut sum: u64 = 0;
-    let mut b = if_below(x, y, x, y);
+    let mut smaller = if_below(x, y, x, y);
     let mut k: u64 = 0;
-    while 0 < b {
-        sum = wrapping_add_u64(sum, times[(b % 4) as usize] << k);
-        b = b / 4;
+    while 0 < smaller {
+        sum = wrapping_add_u64(sum, times[(smaller % 4) as usize] << k);
+        smaller = smaller / 4;
         k += 2;
     }
     sum

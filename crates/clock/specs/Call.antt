@@ -18,7 +18,7 @@ use Rattle.clock.specs.Values.{unchanged, valuesOf, nextOf, startOf}
 use Rattle.clock.specs.declared.Clocked.{Clocked}
 use Rattle.clock.specs.declared.Clocked.the-variants.{Done, Refused}
 
--- 1 to 10 of the file, then 11: "A mask, board or next list has not n words." `fit` tells whether the lists have the length that n records ask for,
+-- The refusals of the file, then 11: "A mask, board or next list has not n words." `fit` tells whether the lists have the length that n records ask for,
 -- and `rest` is the answer if they have.
 unfoldable pub answerAfter : Checked → (ℕ → Bool) → Clocked → Clocked
 answerAfter (Accepted n) fit rest = cond (fit n) rest (Refused BadList 0)

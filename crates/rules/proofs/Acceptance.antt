@@ -8,14 +8,14 @@ use Prim.Native.Nat.{ℕ, zero, suc, _+_, _≤_, _<_}
 use native.Mathlib.Nat.{eq-or-lt-of-le}
 use native.Mathlib.Omega.{arith}
 use lib.ListN.{length}
-use Rattle.netlist.specs.Kinds.{isMultiplier}
-use Rattle.netlist.specs.Limits.{maxCount, maxMultiplierWidth}
-use Rattle.netlist.specs.Layout.{designOf, recordAt, countOf, recordStart, recordSize}
+use Rattle.netlist.specs.Kinds.{isMultiplier, usesOf}
+use Rattle.netlist.specs.Limits.{maxCount, maxMultiplierWidth, kindCount}
+use Rattle.netlist.specs.Layout.{designOf, recordAt, codeAt, fieldsAt, countOf, recordStart, recordSize}
 use Rattle.netlist.specs.Rules.{atMost, AllHold}
 use Rattle.netlist.specs.declared.refusal.Refusal.{Refusal}
-use Rattle.rules.specs.Fit.{wordRules}
+use Rattle.rules.specs.Fit.{fieldRules, wordRules}
 use Rattle.rules.specs.Check.{checkOf, checkFrom, refuseAt, firstBroken, headerRules, recordRules}
-use Rattle.rules.specs.Sound.{Acceptance}
+use Rattle.rules.specs.Sound.{SoundRecord, Acceptance}
 use Rattle.rules.specs.Lent.{Lent}
 use Rattle.rules.specs.declared.Checked.{Checked}
 use Rattle.rules.specs.declared.Checked.the-variants.{Accepted, Refused}
@@ -77,8 +77,39 @@ kept-accepted file k =
     ap (λ (v : Verdict). refuseAt 0 v (checkFrom file (countOf file) 0)) (sym (kept-pass (headerRules file) (k .header)))
     ∙ all-accepted file (countOf file) 0 (λ j h g. k .each j (omega arith))
 
+-- what the rules of record i say: it has the number of a kind, it is sound, and its fields are those that its kind uses
+pub record RuleFacts (file : List ℕ) (i : ℕ) : Type 0 where
+  pub code : codeAt file i < kindCount
+  pub sound : SoundRecord (designOf file) i
+  pub fields : AllHold (fieldRules (fieldsAt file i) (usesOf (designOf file .at i .kind)))
+
+-- here alone the rules of a record are taken by their places in the list
+module _ (file : List ℕ) (i : ℕ) where
+  pub rule-facts : Kept (recordRules file i) → RuleFacts file i
+  unfolding recordRules wordRules
+  rule-facts k =
+      record {
+        code = k .0 .0;
+        sound = record {
+          positive = k .1 .0 .0;
+          narrow = k .1 .0 .1 .0;
+          operands = k .1 .1 .0;
+          widths = k .1 .1 .1 .0;
+          multiplier = k .1 .1 .1 .1 .0;
+          keep = k .1 .1 .1 .1 .1 .1 .0 .0;
+          word = k .1 .1 .1 .1 .1 .1 .0 .1 .0;
+        };
+        fields = k .1 .1 .1 .1 .1 .0;
+      }
+
+  pub facts-rules : RuleFacts file i → Kept (recordRules file i)
+  unfolding recordRules wordRules
+  facts-rules f =
+      let r = f .sound in
+      ((f .code, tt), ((r .positive, (r .narrow, tt)), (r .operands, (r .widths, (r .multiplier, (f .fields, ((r .keep, (r .word, tt)), tt)))))))
+
 pub accepted : (file : List ℕ) (n : ℕ) → checkOf file ≡ Accepted n → Acceptance file n
-unfolding checkOf headerRules recordRules wordRules designOf
+unfolding checkOf headerRules designOf
 accepted file n e =
     let kept = accepted-kept file n e in
     let header = kept .header in
@@ -86,21 +117,8 @@ accepted file n e =
     record {
       count = same;
       size = header .1 .1 .1 .1 .0 .0 ∙ ap recordStart (sym same);
-      sound = record {
-        few = header .1 .1 .1 .0 .0;
-        each = λ i h.
-            let k = kept .each i h in
-            record {
-              positive = k .1 .0 .0;
-              narrow = k .1 .0 .1 .0;
-              operands = k .1 .1 .0;
-              widths = k .1 .1 .1 .0;
-              multiplier = k .1 .1 .1 .1 .0;
-              keep = k .1 .1 .1 .1 .1 .1 .0 .0;
-              word = k .1 .1 .1 .1 .1 .1 .0 .1 .0;
-            };
-      };
-      fields = λ i h. kept .each i (subst (λ (m : ℕ). i < m) same h) .1 .1 .1 .1 .1 .0;
+      sound = record { few = header .1 .1 .1 .0 .0; each = λ i h. rule-facts file i (kept .each i h) .sound };
+      fields = λ i h. rule-facts file i (kept .each i (subst (λ (m : ℕ). i < m) same h)) .fields;
     }
 
 -- "Files so refused are no longer accepted designs": no multiplier of an accepted file is wider than 32 bits

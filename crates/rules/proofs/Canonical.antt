@@ -16,7 +16,7 @@ use Rattle.rules.specs.Fit.{fieldRules}
 use Rattle.rules.specs.Check.{checkOf, headerRules, recordRules}
 use Rattle.rules.specs.Encode.{encode, encodeFrom, encodeRecord, AreBytes}
 use Rattle.rules.specs.declared.Checked.the-variants.{Accepted}
-use Rattle.rules.proofs.Acceptance.{accepted, accepted-kept}
+use Rattle.rules.proofs.Acceptance.{accepted, accepted-kept, rule-facts}
 use Rattle.rules.proofs.CheckLaws.{Kept}
 use Rattle.rules.proofs.EncodedBytes.{length-record, length-encode}
 
@@ -55,16 +55,17 @@ module _ (file : List ℕ) where
 
   -- a record that keeps its rules stands at its place, as its encoding
   stands-record : AreBytes file → (i : ℕ) → Kept (recordRules file i) → Stands file (recordStart i) (encodeRecord (recordAt file i))
-  unfolding recordRules fieldRules encodeRecord designOf recordAt codeAt widthAt fieldsAt keepAt
+  unfolding fieldRules encodeRecord designOf recordAt codeAt widthAt fieldsAt keepAt
   stands-record b i kept =
       let p = recordStart i in
       let u = usesOf (recordAt file i .kind) in
-      let same = kept .1 .1 .1 .1 .1 .0 in
+      let facts = rule-facts file i kept in
+      let same = facts .fields in
       let a = bytes 2 (u .a) in
       let ab = a ++ bytes 2 (u .b) in
       let abc = ab ++ bytes 2 (u .c) in
       let abck = abc ++ bytes 8 (u .k) in
-      stands-cons p (codeOf (recordAt file i .kind)) _ (sym (code-back (codeAt file i) (fieldsAt file i) (kept .0 .0)))
+      stands-cons p (codeOf (recordAt file i .kind)) _ (sym (code-back (codeAt file i) (fieldsAt file i) (facts .code)))
       (stands-cons (suc p) (recordAt file i .width) _ (ap (byteAt file) (sym (add-one p)))
       (moved {at = p + 2} (omega arith)
       (stands-append (p + 2) abck (bytes 8 (recordAt file i .keep))

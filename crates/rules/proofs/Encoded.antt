@@ -13,12 +13,12 @@ use Rattle.netlist.specs.Layout.{Design, designOf, recordAt, codeAt, widthAt, f
 use Rattle.netlist.specs.Rules.{AllHold}
 use Rattle.netlist.specs.declared.record.Kind.{Kind}
 use Rattle.netlist.proofs.KindLaws.{usedFields, kind-back, code-low}
-use Rattle.rules.specs.Fit.{fieldRules, wordRules}
+use Rattle.rules.specs.Fit.{fieldRules}
 use Rattle.rules.specs.Check.{checkOf, headerRules, recordRules}
 use Rattle.rules.specs.Encode.{encode, encodeFrom, encodeRecord, AreBytes, StandsFor}
 use Rattle.rules.specs.Sound.{Sound, SameDesign}
 use Rattle.rules.specs.declared.Checked.the-variants.{Accepted}
-use Rattle.rules.proofs.Acceptance.{kept-accepted}
+use Rattle.rules.proofs.Acceptance.{kept-accepted, facts-rules}
 use Rattle.rules.proofs.CheckLaws.{Kept}
 use Rattle.rules.proofs.EncodedBytes.{length-encode, byte-encode, number-encode}
 use Rattle.rules.proofs.SoundLaws.{operands-below, word-64, k-64, record-same}
@@ -94,12 +94,10 @@ module _ (d : Design) (s : Sound d) where
   fields-kept i h = rw (fields-back i h, record-back i h) (refl, (refl, (refl, (refl, tt))))
 
   record-kept : (i : ℕ) → i < d .count → Kept (recordRules (encode d) i)
-  unfolding recordRules wordRules
   record-kept i h =
-      let e = record-same d (designOf (encode d)) same-back s i h in
       let code = code-back i h in
       let low = code-low (d .at i .kind) in
-      ((omega arith, tt), ((e .positive, (e .narrow, tt)), (e .operands, (e .widths, (e .multiplier, (fields-kept i h, ((e .keep, (e .word, tt)), tt)))))))
+      facts-rules (encode d) i (record { code = omega arith; sound = record-same d (designOf (encode d)) same-back s i h; fields = fields-kept i h })
 
   check-back : checkOf (encode d) ≡ Accepted (d .count)
   check-back =

@@ -13,11 +13,11 @@ use Rattle.bits.proofs.Order.{meet-right, within-lt}
 use Rattle.netlist.specs.Kinds.{usesOf, operandsOf}
 use Rattle.netlist.specs.Layout.{Design, designOf, recordAt, codeAt, widthAt, fieldsAt, keepAt, countOf, byteAt, recordStart}
 use Rattle.netlist.specs.Rules.{AllHold}
-use Rattle.rules.specs.Fit.{operandLimit, fieldRules, operandRules, widthRulesAt, wordRules}
+use Rattle.rules.specs.Fit.{operandLimit, fieldRules, operandRules, widthRulesAt}
 use Rattle.rules.specs.Check.{checkOf, headerRules, recordRules}
 use Rattle.rules.specs.Sound.{Sound, SoundRecord, SameDesign}
 use Rattle.rules.specs.declared.Checked.the-variants.{Accepted}
-use Rattle.rules.proofs.Acceptance.{accepted, accepted-kept, kept-accepted}
+use Rattle.rules.proofs.Acceptance.{accepted, accepted-kept, kept-accepted, rule-facts, facts-rules}
 use Rattle.rules.proofs.CheckLaws.{Kept}
 use Rattle.rules.proofs.SoundLaws.{word-64, names-same, record-same}
 use Rattle.care.specs.Least.{maskAt}
@@ -125,16 +125,20 @@ module _ (file : List ℕ) (n : ℕ) (e : checkOf file ≡ Accepted n) (masks : 
       )
 
   fields-kept : (i : ℕ) → i < countOf file → AllHold (fieldRules (fieldsAt other i) (usesOf (designOf other .at i .kind)))
-  unfolding recordRules designOf recordAt
-  fields-kept i h = rw (code-same i, fields-same i) (accepted-kept file n e .each i h .1 .1 .1 .1 .1 .0)
+  unfolding designOf recordAt
+  fields-kept i h = rw (code-same i, fields-same i) (rule-facts file i (accepted-kept file n e .each i h) .fields)
 
   record-kept : (i : ℕ) → i < countOf file → Kept (recordRules other i)
-  unfolding recordRules wordRules designOf trimDesign
+  unfolding designOf trimDesign
   record-kept i h =
-      let r = record-same (trimDesign (designOf file) masks) (designOf other) holds-cut (trim-sound (designOf file) sound masks) i h in
-      let code = accepted-kept file n e .each i h .0 .0 in
+      let code = rule-facts file i (accepted-kept file n e .each i h) .code in
       let q = code-same i in
-      ((omega arith, tt), ((r .positive, (r .narrow, tt)), (r .operands, (r .widths, (r .multiplier, (fields-kept i h, ((r .keep, (r .word, tt)), tt)))))))
+      facts-rules other i
+      (record {
+        code = omega arith;
+        sound = record-same (trimDesign (designOf file) masks) (designOf other) holds-cut (trim-sound (designOf file) sound masks) i h;
+        fields = fields-kept i h;
+      })
 
   pub trim-accepted : checkOf other ≡ Accepted n
   trim-accepted =

@@ -7,16 +7,16 @@ use native.Mathlib.Omega.{arith}
 use lib.Arith.{le-zero}
 use lib.Dec.{lit<, ltb}
 use lib.Pow.{shr-shr}
-use Rattle.bits.proofs.Modulo.{shift-in, cut-short, factors, multiples, digit-step}
+use Rattle.bits.proofs.Modulo.{shift-in, cut-short, factors, multiples, product-step}
 use Rattle.bits.specs.Words.{cut, down, productAt}
 use Rattle.bits.proofs.arith.mul.Statement.{statement}
 use Rattle.bits.proofs.arith.mul.Tie as tie
 
 abbrev Inv-loop : tie.InvT-loop
-Inv-loop x y a twice times sum₀ b₀ k₀ sum b k = (sum ≡ productAt 64 a (cut k b₀)) × (b ≡ down k b₀)
+Inv-loop x y larger twice times sum₀ smaller₀ k₀ sum smaller k = (sum ≡ productAt 64 larger (cut k smaller₀)) × (smaller ≡ down k smaller₀)
 
 abbrev μ-loop : tie.MeasureT-loop
-μ-loop x y a twice times sum₀ b₀ k₀ sum b k = b
+μ-loop x y larger twice times sum₀ smaller₀ k₀ sum smaller k = smaller
 
 -- bits are left, so their place lies within the word
 place-low : (c : tie.In-loop Inv-loop μ-loop) → c .before .loop .k < 64
@@ -44,10 +44,10 @@ loop-holds c =
     (ap (λ (n : ℕ). n % 2 ^ 64) (sym (mul-zero a) ∙ ap (λ (n : ℕ). a * n) (sym (mod-one b))), sym (div-one b))
 
 mul-wrapping-add-u64 : tie.Need-mul-wrapping-add-u64 Inv-loop μ-loop
-mul-wrapping-add-u64 c = let d = mod-lt (c .before .loop .b) (lit< {n = 4} tt) in omega arith
+mul-wrapping-add-u64 c = let d = mod-lt (c .before .loop .smaller) (lit< {n = 4} tt) in omega arith
 
 array-read-wrapping-add-u64 : tie.Need-array-read-wrapping-add-u64 Inv-loop μ-loop
-array-read-wrapping-add-u64 c = mod-lt (c .before .loop .b) (lit< tt)
+array-read-wrapping-add-u64 c = mod-lt (c .before .loop .smaller) (lit< tt)
 
 shl-wrapping-add-u64 : tie.Need-shl-wrapping-add-u64 Inv-loop μ-loop
 shl-wrapping-add-u64 c = place-low c
@@ -68,11 +68,11 @@ loop-again c =
     let twice = c .before .before .before .before .before .wrapping-add-u64 in
     let thrice = c .before .before .before .before .wrapping-add-u642 in
     let b = c .before .before .before .if-below2 .result in
-    let digit = multiples (larger .result) (twice .result) (thrice .result) (2 ^ 64) (omega (arith, larger .ok)) (twice .ensures) (thrice .ensures) (l .b % 4) (mod-lt (l .b) (lit< tt)) in (
+    let multiple = multiples (larger .result) (twice .result) (thrice .result) (2 ^ 64) (omega (arith, larger .ok)) (twice .ensures) (thrice .ensures) (l .smaller % 4) (mod-lt (l .smaller) (lit< tt)) in (
       c .wrapping-add-u643 .ensures
           ∙ ap₂ (λ (s t : ℕ). (s + t * 2 ^ l .k % 2 ^ 64) % 2 ^ 64) (l .inv .0)
-          (digit ∙ ap (λ (n : ℕ). larger .result * (n % 4) % 2 ^ 64) (l .inv .1))
-          ∙ digit-step (larger .result) b (l .k) 2 (2 ^ 64),
+          (multiple ∙ ap (λ (n : ℕ). larger .result * (n % 4) % 2 ^ 64) (l .inv .1))
+          ∙ product-step (larger .result) b (l .k) 2 (2 ^ 64),
       ap (λ (n : ℕ). n / 4) (l .inv .1) ∙ shr-shr b (l .k) 2,
     )
 
