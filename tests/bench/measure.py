@@ -4,6 +4,7 @@ Assumes the lines that rows.h describes; without valgrind, no counts."""
 import os
 import shutil
 import subprocess
+from typing import NamedTuple
 
 
 class Row:
@@ -29,6 +30,17 @@ class Row:
         return self.counts and self.counts[side] / self.records
 
 
+class Rounds(NamedTuple):
+    """How many rounds a row has in one program; times in microseconds."""
+
+    most: int
+    # The least that one takes.
+    length: int
+    # So many there are however long they take, and no others after this time.
+    least: int
+    time: int
+
+
 # Callgrind counts a repeating string instruction once for each byte, and the
 # C library copies and clears long blocks with them. So it does without.
 WITHOUT_STRINGS = {"GLIBC_TUNABLES": "glibc.cpu.hwcaps=-ERMS"}
@@ -44,22 +56,21 @@ def fields_of(command, **more):
 
 
 def time_rows(program):
-    """Gives the rows, the number of rounds and the length of one."""
-    (_, rounds, length), *lines = fields_of([program])
+    """Gives the rows, and how many rounds they have."""
+    (_, *rounds), *lines = fields_of([program])
     rows = [Row(name, int(records), int(designs), float(library), float(plain))
             for name, records, designs, library, plain in lines]
-    return rows, int(rounds), int(length)
+    return rows, Rounds(*map(int, rounds))
 
 
 def best_rows(programs):
     """The same of all programs together: the best time of each side in any
-    of them, and all their rounds."""
-    (rows, rounds, length), *others = [time_rows(program)
-                                       for program in programs]
-    for more, _, _ in others:
+    of them, and the rounds, for which all have the same rule."""
+    (rows, rounds), *others = [time_rows(program) for program in programs]
+    for more, _ in others:
         for row, again in zip(rows, more):
             row.times = tuple(map(min, row.times, again.times))
-    return rows, rounds * len(programs), length
+    return rows, rounds
 
 
 def calls_counted(path):

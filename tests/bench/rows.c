@@ -101,7 +101,8 @@ int run_rows(int argc, char **argv, const struct row *rows, size_t count)
         fprintf(stderr, "usage: %s [--once]\n", argv[0]);
         return 2;
     }
-    printf("rounds\t%d\t%d\n", ROUNDS, ROUND_MICROSECONDS);
+    printf("rounds\t%d\t%d\t%d\t%d\n", ROUNDS, ROUND_MICROSECONDS,
+           LEAST_ROUNDS, ROW_MICROSECONDS);
     for (i = 0; i < count; i++)
         for (j = 0; j < ROW_COUNTS; j++)
             if (rows[i].counts[j] != 0)

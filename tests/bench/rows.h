@@ -22,11 +22,13 @@ struct row {
 };
 
 /* Prints lines of fields parted by tabs. The first has the word "rounds",
-   their number and the least length of one in microseconds. Then there is a
-   line for each row: name, records, designs, and the microseconds for a call
-   of the library and of plain C. With the one option --once there are no
-   times: each side is called once for each design, by `counted`. Gives the
-   status to end with, which is 1 if results differ. */
+   their number, the least length of one, the number that a row has however
+   long they take, and the time after which it has no others; lengths and times
+   are in microseconds. Then there is a line for each row: name, records,
+   designs, and the microseconds for a call of the library and of plain C. With
+   the one option --once there are no times: each side is called once for each
+   design, by `counted`. Gives the status to end with, which is 1 if results
+   differ. */
 int run_rows(int argc, char **argv, const struct row *rows, size_t count);
 
 #endif

@@ -56,16 +56,25 @@ static void keep_better(double *best, function *call,
         *best = one;
 }
 
-/* The two take turns, so that a change of clock speed meets both. */
+/* Whether there is one more round, after so many and so much time. */
+static int goes_on(int made, double spent)
+{
+    return made < LEAST_ROUNDS
+        || (made < ROUNDS && spent < ROW_MICROSECONDS);
+}
+
+/* The two take turns, so that a change of clock speed meets both, and have the
+   same number of rounds. */
 struct times time_both(function *library, function *plain,
                        const struct workload *work)
 {
     unsigned long library_turns = turns_per_round(library, work);
     unsigned long plain_turns = turns_per_round(plain, work);
     struct times best = { 1e300, 1e300 };
+    double start = microseconds();
     int i;
 
-    for (i = 0; i < ROUNDS; i++) {
+    for (i = 0; goes_on(i, microseconds() - start); i++) {
         keep_better(&best.library, library, work, library_turns);
         keep_better(&best.plain, plain, work, plain_turns);
     }

@@ -185,6 +185,35 @@ void chain(struct workload *work, uint32_t count)
     add_file(work, &rng);
 }
 
+/* Four records for each register: itself, the two parts of its word, and the
+   word turned by one place. A register reads the turned word of the next one,
+   which is seven records on, and the last register that of the first. Inputs
+   that nobody reads fill up the count, and an output has the lowest bit of the
+   first register. For a count that is a multiple of eight the number of
+   registers is odd, so that all bits of all of them are cared for. A sweep
+   from the last record to the first finds only one of these bits. */
+void ring(struct workload *work, uint32_t count)
+{
+    struct rng rng = rng_for(SEED, count);
+    uint32_t end = count - 4;
+
+    work->files = 0;
+    netlist_clear(&net);
+    while (net.count < end) {
+        uint32_t word = netlist_add(&net, KIND_REGISTER, WIDTH_LIMIT,
+                                    (net.count + 7) % end, 0, 0, 0);
+        uint32_t high = netlist_add(&net, KIND_EXTRACT, WIDTH_LIMIT - 1, word,
+                                    0, 0, 1);
+        uint32_t low = netlist_add(&net, KIND_EXTRACT, 1, word, 0, 0, 0);
+
+        netlist_add(&net, KIND_CONCAT, WIDTH_LIMIT, low, high, 0, 0);
+    }
+    while (net.count < count - 1)
+        netlist_input(&net, 1);
+    netlist_output(&net, 2, 1);
+    add_file(work, &rng);
+}
+
 /* The worst case of a product that is put together from sums, which takes a
    step for each two bits of the smaller factor up to its highest: two inputs
    as wide as can be with the highest one set, and all other records but an

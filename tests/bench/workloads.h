@@ -30,6 +30,7 @@ workload_maker feedback;      /* random designs, many registers */
 workload_maker combinational; /* random designs without registers */
 workload_maker cut_words;     /* many ands and ors with a constant */
 workload_maker chain;         /* registers that each read the next one */
+workload_maker ring;          /* the same in a circle, turned by one place */
 
 /* The same designs for trimming by a list: it has the smallest masks, or all
    bits of each width. */

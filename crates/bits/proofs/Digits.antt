@@ -1,14 +1,14 @@
 -- The bits of a word: they decide it; and the bits of what operations, shifts and cuts make of words.
 -- Assumes nothing.
 use mathlib.Core.Path.{_≡_, refl, sym, ap, ap₂, _∙_, subst}
-use mathlib.Core.Logic.{_⊎_, inl, inr}
-use Prim.Native.Nat.{ℕ, zero, suc, _+_, _-_, _*_, _/_, _%_, _^_, _≤_, _<_, min, max, suc-le-suc}
-use native.Mathlib.Nat.{le-add-right, le-add-left, le-of-suc-le, le-dest, lt-of-not-le, lt-of-le-of-lt, lt-of-lt-of-le, le-of-suc-le-suc, zero-lt-suc, not-suc-le-zero, div-one, div-add-mod', div-eq-of-lt, mod-lt, min-le-left, max-le}
+use mathlib.Core.Logic.{_≢_, _⊎_, inl, inr}
+use Prim.Native.Nat.{ℕ, zero, suc, _+_, _-_, _*_, _/_, _%_, _^_, _≤_, _<_, min, max, zero-le, suc-le-suc}
+use native.Mathlib.Nat.{le-add-right, le-add-left, le-of-suc-le, le-dest, lt-of-not-le, lt-of-le-of-lt, lt-of-lt-of-le, le-of-suc-le-suc, zero-lt-suc, not-suc-le-zero, div-one, div-add-mod', div-eq-of-lt, mod-lt, mod-self, min-le-left, max-le, le-refl, one-mul}
 use native.Mathlib.Numerals.{one-add}
 use native.Mathlib.Omega.{arith}
 use lib.Arith.{half-le, le-zero, lt-one, digits-mod}
 use lib.Bits.{bitAnd, bitOr, bitXor, differ, and-step, or-step, xor-step, and-shr, or-shr, xor-shr}
-use lib.Pow.{pow-mono, shl-shr, shr-shr, field, mod-mod-pow, high, low, ones-lt, ones-split}
+use lib.Pow.{pow-mono, pow-lt, shl-shr, shr-shr, field, mod-mod-pow, high, low, ones-lt, ones-split}
 use Rattle.bits.specs.Masks.{bit, without}
 
 pub bit-lt : (x i : ℕ) → bit x i < 2
@@ -118,3 +118,19 @@ bit-low n i h =
     (λ j. ap (λ (m : ℕ). bit m i) (ones-split (j + 1) i)
     ∙ ap (λ (m : ℕ). m % 2) (high (2 ^ (j + 1) - 1) i (ones-lt i) ∙ ones-split j 1)
     ∙ low (2 ^ j - 1) 1 (ones-lt 1))
+
+-- ---- a single one
+
+pub bit-single : (k : ℕ) → bit (2 ^ k) k ≡ 1
+bit-single k = ap (λ (n : ℕ). n % 2) (ap (λ (n : ℕ). n / 2 ^ k) (sym (one-mul (2 ^ k))) ∙ shl-shr 1 k)
+
+-- no other one stands above it, and nothing is left of 2 ^ k below
+pub bit-single-other : (k i : ℕ) → i ≢ k → bit (2 ^ k) i ≡ 0
+bit-single-other k i n = go (bit-cases (2 ^ k) i)
+  where
+    lower : i < k → bit (2 ^ k) i ≡ 0
+    lower h = sym (bit-cut (2 ^ k) k i h) ∙ ap (λ (m : ℕ). bit m i) (mod-self (2 ^ k)) ∙ bit-beyond 0 i (zero-lt-suc zero) zero-le
+
+    go : (bit (2 ^ k) i ≡ 0) ⊎ (bit (2 ^ k) i ≡ 1) → bit (2 ^ k) i ≡ 0
+    go (inl e) = e
+    go (inr e) = let h = one-below (suc k) i (pow-lt (le-refl (suc k))) e in lower (omega arith)

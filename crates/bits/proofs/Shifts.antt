@@ -1,14 +1,18 @@
--- Masks that are cut, moved up, moved down, or filled up to their highest one: their order and their widths.
+-- Masks that are cut, moved up, moved down, or filled up to their highest one: their order, their widths and that one.
 -- Assumes nothing.
 use mathlib.Core.Path.{_≡_, refl, sym, ap, ap₂, _∙_, subst, subst₂}
-use Prim.Native.Nat.{ℕ, _+_, _*_, _^_, _≤_, _<_}
-use native.Mathlib.Nat.{add-zero, le-trans, le-of-eq, lt-of-lt-of-le}
+use mathlib.Core.Logic.{_⊎_, inl, inr}
+use Prim.Native.Nat.{ℕ, suc, _+_, _*_, _/_, _^_, _≤_, _<_}
+use native.Mathlib.Nat.{add-zero, le-trans, le-of-eq, lt-of-lt-of-le, mod-eq-of-lt, div-lt-iff-lt-mul, one-mul}
+use native.Mathlib.Numerals.{one-add}
+use native.Mathlib.Omega.{arith}
 use lib.Bits.{bitAnd, and-mask, and-block}
+use lib.Dec.{lit<}
 use lib.Pow.{pow-pos, pow-mono, shl-lt, shl-exact, shr-lt}
-use Rattle.bits.specs.Masks.{Within}
+use Rattle.bits.specs.Masks.{bit, Within}
 use Rattle.bits.specs.Words.{lowMask, cut, up, down, lengthIn, bitLength}
 use Rattle.bits.proofs.Counts.{lengthIn-holds, lengthIn-least}
-use Rattle.bits.proofs.Digits.{bit-down}
+use Rattle.bits.proofs.Digits.{bit-down, bit-cases}
 use Rattle.bits.proofs.Order.{within-bit, within-by-bits, within-lt, meet-mono}
 
 -- ---- cut to a width
@@ -34,6 +38,10 @@ up-mono k h = cut-mono 64 (times-mono k h)
 pub up-exact : {a : ℕ} (w k : ℕ) → a < 2 ^ w → w + k ≤ 64 → up k a ≡ a * 2 ^ k
 up-exact w k = shl-exact w k 64
 
+-- a single one
+pub up-one : (k : ℕ) → k < 64 → up k 1 ≡ 2 ^ k
+up-one k h = up-exact 1 k (lit< tt) (omega arith) ∙ one-mul (2 ^ k)
+
 pub up-lt : {a : ℕ} (w k v : ℕ) → a < 2 ^ w → w + k ≤ v → v ≤ 64 → up k a < 2 ^ v
 up-lt w k v h g l = subst (λ (n : ℕ). n < 2 ^ v) (sym (up-exact w k h (le-trans g l))) (lt-of-lt-of-le (shl-lt w k h) (pow-mono g))
 
@@ -56,3 +64,17 @@ length-le {d} = lengthIn-least 64 d
 
 pub length-mono : {a b : ℕ} → Within a b → b < 2 ^ 64 → bitLength a ≤ bitLength b
 length-mono {b = b} h g = length-le (bitLength b) (within-lt (bitLength b) h (lengthIn-holds 64 b g))
+
+-- a word has a one at the end of its length
+pub length-one : (x n : ℕ) → x < 2 ^ 64 → bitLength x ≡ suc n → bit x n ≡ 1
+length-one x n h e = go (bit-cases x n)
+  where
+    top : x / 2 ^ n < 2
+    top = shr-lt 1 n (subst (λ (m : ℕ). x < 2 ^ m) (e ∙ sym (one-add n)) (lengthIn-holds 64 x h))
+
+    short : x / 2 ^ n < 1 → bitLength x ≤ n
+    short l = length-le n (subst (λ (m : ℕ). x < m) (one-mul (2 ^ n)) (div-lt-iff-lt-mul (pow-pos n) .0 l))
+
+    go : (bit x n ≡ 0) ⊎ (bit x n ≡ 1) → bit x n ≡ 1
+    go (inl z) = let m = mod-eq-of-lt top in let l = short (omega arith) in omega arith
+    go (inr o) = o

@@ -4,14 +4,15 @@ use mathlib.Core.Path.{_≡_, sym, ap, ap₂, _∙_}
 use mathlib.Core.Bool.{Bool, cond}
 use mathlib.Core.Logic.{_⊎_, inl, inr}
 use Prim.Native.Nat.{ℕ, _+_, _-_, _*_, _%_, _^_, _≤_, _<_}
-use native.Mathlib.Nat.{one-mul, eq-zero-or-pos}
+use native.Mathlib.Nat.{eq-zero-or-pos}
 use native.Mathlib.Omega.{arith}
 use lib.Bits.{bitAnd, bitXor, xor-add-and, and-high}
-use lib.Dec.{ltb, lit<}
-use lib.Pow.{pow-add, shl-exact}
+use lib.Dec.{ltb}
+use lib.Pow.{pow-add}
 use borrow.Author.Tests.{lt-ltb, le-ltb}
 use Rattle.bits.specs.Masks.{bit}
 use Rattle.bits.proofs.Digits.{bit-cases}
+use Rattle.bits.proofs.Shifts.{up-one}
 use Rattle.netlist.specs.declared.record.Kind.the-variants.{Below, SignedBelow}
 use Rattle.signal.specs.Results.{topBit, signedAt, resultOf}
 
@@ -44,7 +45,7 @@ module _ (a b w wb own x y z : ℕ) where
 
 -- the word of the top bit alone, as a shift of 1 gives it
 pub top-word : (w : ℕ) → 1 ≤ w → w ≤ 64 → 1 * 2 ^ (w - 1) % 2 ^ 64 ≡ 2 ^ (w - 1)
-top-word w l n = shl-exact 1 (w - 1) 64 (lit< tt) (omega arith) ∙ one-mul (2 ^ (w - 1))
+top-word w l n = up-one (w - 1) (omega arith)
 
 meet-power : (x n : ℕ) → bitAnd x (2 ^ n) ≡ bit x n * 2 ^ n
 meet-power x n = ap (bitAnd x) (let e : 2 ^ (1 + n) ≡ 2 * 2 ^ n = pow-add 2 1 n in omega arith) ∙ and-high x 1 n

@@ -1,4 +1,5 @@
 -- The laws of sweeps, for the proofs of this crate.
 -- Assumes nothing.
-mod Marks
+mod MarkLaws
+mod NotedLaws
 mod SweepLaws

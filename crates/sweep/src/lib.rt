@@ -1,87 +1,118 @@
-// Backward sweeps over the records, until one adds no bit to a record that it has already passed.
+// Backward sweeps over the records, from marked record to marked record, until none is marked.
 // A caller has an accepted file and a list with a mask within the width of each record.
+use crate::marks::highest_below;
+use crate::marks::mark;
+use crate::marks::unmark;
 use demand::Asks;
 use demand::asked;
 use demand::demand_at;
+use netlist::record::Record;
 use signal::Ask;
 ghost use mathlib.Core.Path.{_≡_};
-ghost use Prim.Native.Nat.{_+_, _<_, _^_, max};
+ghost use mathlib.Core.Bool.{_||_};
+ghost use mathlib.Core.List.{[], _∷_};
+ghost use Prim.Native.Nat.{_*_, _≤_, _<_};
+ghost use lib.Dec.{leb, ltb};
 ghost use lib.ListN.{length};
 ghost use Rattle.netlist.specs.Layout.{designOf, countOf};
 ghost use Rattle.rules.specs.Sound.{Acceptance};
 ghost use Rattle.signal.specs.AskLists.{Named};
 ghost use Rattle.demand.specs.Held.{listed};
-ghost use Rattle.care.specs.Least.{grant, leastAbove, Fits, joined};
-ghost use Rattle.sweep.specs.Sweep.{passedMark, markFor, marksOf, Ready, Swept};
+ghost use Rattle.care.specs.Least.{leastAbove, Fits};
+ghost use Rattle.sweep.specs.Sweep.{Joins, Ready, AllCovered, Visited, Swept};
 
-// One more than `at` where a sweep that stands at record i has passed that record by, else 0.
-fn mark(i: usize, at: usize) -> usize
-    requires { ⌜ at + 1 < 2 ^ 64 ⌝ }
-    ensures { λ r. ⌜ r ≡ passedMark i at ⌝ }
+mod marks;
+
+// Words for the marks of the longest file, with one record more to look below.
+const MARK_WORDS: usize = Record::MAX_COUNT / 64 + 1;
+
+// Whether a visit that goes down to record `low` and stands at record i comes to a record no more.
+fn passed(low: usize, i: usize, at: usize) -> bool
+    ensures { λ r. ⌜ r ≡ ltb at low || leb i at ⌝ }
 {
-    if at < i { 0 } else { at + 1 }
+    at < low || i <= at
 }
 
-fn larger(a: usize, b: usize) -> usize
-    ensures { λ r. ⌜ r ≡ max a b ⌝ }
-{
-    if a < b { b } else { a }
-}
-
-// Joins a mask that is asked of an operand to the operand's own. The answer is how far the next sweep has to go up: `again` so far.
-fn join(list: &mut [u64], ask: Ask, i: usize, again: usize) -> usize
-    requires { ⌜ ask .operand < length (now list) ⌝ }
-    ensures list { λ r. ⌜ now (list .exit) ≡ joined (now (list .entry)) ask ⌝ }
-    ensures mark { λ r. ⌜ r ≡ markFor i again (now (list .entry)) ask ⌝ }
+// Joins a mask that is asked of an operand to the operand's own. An operand that gains a bit and has been passed is marked.
+fn join(list: &mut [u64], marks: &mut [u64], ask: Ask, low: usize, i: usize)
+    requires { ⌜ (ask .operand < length (now list)) × (ask .operand < 64 * length (now marks)) ⌝ }
+    ensures { λ r. ⌜ Joins low i (ask ∷ []) (now (list .entry)) (now (list .exit)) (now (marks .entry)) (now (marks .exit)) ⌝ }
 {
     let at = ask.operand;
     let old = list[at];
     let new = old | ask.mask;
     if old == new {
-        return again;
+        return;
     }
     list[at] = new;
-    larger(again, mark(i, at))
+    if passed(low, i, at) {
+        mark(marks, at);
+    }
 }
 
 // Joins all that record i asks. A single ask has a call of its own, so that nothing has to stand in for a second and a third.
-fn join_all(list: &mut [u64], asks: Asks, i: usize, again: usize) -> usize
-    requires { ⌜ Named (length (now list)) (listed asks) ⌝ }
-    ensures list { λ r. ⌜ now (list .exit) ≡ grant (listed asks) (now (list .entry)) ⌝ }
-    ensures mark { λ r. ⌜ r ≡ marksOf i again (listed asks) (now (list .entry)) ⌝ }
+fn join_all(list: &mut [u64], marks: &mut [u64], asks: Asks, low: usize, i: usize)
+    requires { ⌜ Named (length (now list)) (listed asks) × (length (now list) < 64 * length (now marks)) ⌝ }
+    ensures { λ r. ⌜ Joins low i (listed asks) (now (list .entry)) (now (list .exit)) (now (marks .entry)) (now (marks .exit)) ⌝ }
 {
     let count = asks.count;
     if count == 0 {
-        return again;
+        return;
     }
     if count == 1 {
-        return join(list, asks.first, i, again);
+        join(list, marks, asks.first, low, i);
+        return;
     }
-    let first = join(list, asks.first, i, again);
-    let second = join(list, asks.second, i, first);
+    join(list, marks, asks.first, low, i);
+    join(list, marks, asks.second, low, i);
     if count == 2 {
-        return second;
+        return;
     }
-    join(list, asks.third, i, second)
+    join(list, marks, asks.third, low, i);
 }
 
-// One sweep from record `top` - 1 down to 0. The records from `top` on are settled already, and a record with D 0 asks for no
-// bit. The answer is where the next sweep starts: one more than the highest record that gained a bit after this one had passed it, or 0.
-fn sweep(file: &[u8], list: &mut [u64], top: usize) -> usize
-    requires { ⌜ Ready (now file) (now list) top ⌝ }
-    ensures { λ r. ⌜ Swept (designOf (now (file .entry))) (now (list .entry)) (now (list .exit)) r ⌝ }
+// Visits the records from `high` - 1 down to `low`. A record with D 0 asks for no bit.
+fn visit(file: &[u8], list: &mut [u64], marks: &mut [u64], low: usize, high: usize)
+    requires { ⌜ Ready (now file) (now list) (now marks) × (low ≤ high) × (high ≤ countOf (now file)) ⌝ }
+    ensures { λ r. ⌜ Visited (designOf (now (file .entry))) low low high (now (list .entry)) (now (list .exit)) (now (marks .entry)) (now (marks .exit)) ⌝ }
 {
-    let mut again: usize = 0;
-    let mut i = top;
-    while 0 < i {
+    let mut i = high;
+    while low < i {
         i -= 1;
         let d = demand_at(file, i, list[i]);
         if d != 0 {
             let asks = asked(file, i, d);
-            again = join_all(list, asks, i, again);
+            join_all(list, marks, asks, low, i);
         }
     }
-    again
+}
+
+// One sweep: backward from marked record to marked record. A mark is cleared before the visit, which may set it again.
+fn sweep(file: &[u8], list: &mut [u64], marks: &mut [u64])
+    requires { ⌜ Ready (now file) (now list) (now marks) × AllCovered (designOf (now file)) (now list) (now marks) ⌝ }
+    ensures { λ r. ⌜ Swept (designOf (now (file .entry))) 0 (now (list .entry)) (now (list .exit)) (now (marks .exit)) ⌝ }
+{
+    let mut i = highest_below(marks, list.len());
+    while 0 < i {
+        unmark(marks, i - 1);
+        visit(file, list, marks, i - 1, i);
+        i = highest_below(marks, i - 1);
+    }
+}
+
+// The same as `raise`, with words for the marks. The first visit is of all records, so it does not matter which are marked before.
+fn settle(file: &[u8], list: &mut [u64], marks: &mut [u64])
+    requires { ⌜ Ready (now file) (now list) (now marks) ⌝ }
+    ensures { λ r. ⌜ now (list .exit) ≡ leastAbove (designOf (now (file .entry))) (now (list .entry)) ⌝ }
+{
+    let n = list.len();
+    visit(file, list, marks, 0, n);
+    loop {
+        sweep(file, list, marks);
+        if highest_below(marks, n) == 0 {
+            break;
+        }
+    }
 }
 
 // Raises the masks in a list to the smallest closed family above them.
@@ -89,11 +120,6 @@ pub fn raise(file: &[u8], list: &mut [u64])
     requires { ⌜ Acceptance (now file) (countOf (now file)) × Fits (designOf (now file)) (now list) ⌝ }
     ensures { λ r. ⌜ now (list .exit) ≡ leastAbove (designOf (now (file .entry))) (now (list .entry)) ⌝ }
 {
-    let mut top = list.len();
-    loop {
-        top = sweep(file, list, top);
-        if top == 0 {
-            break;
-        }
-    }
+    let mut marks: [u64; MARK_WORDS] = [0; MARK_WORDS];
+    settle(file, list, &mut marks[..MARK_WORDS]);
 }

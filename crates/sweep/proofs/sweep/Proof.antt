@@ -1,115 +1,89 @@
--- `sweep::sweep` meets its contract: a turn passes a record with D 0 by, or joins what it asks, and `Sweeping` is kept.
+-- `sweep::sweep` meets its contract: a turn clears a mark and visits the record, and `Swept` is kept.
 -- Assumes nothing.
-use mathlib.Core.List.{List}
-use mathlib.Core.Path.{_≡_, sym, ap, subst, _∙_}
-use Prim.Native.Nat.{ℕ, suc, _-_, _<_}
+use mathlib.Core.Path.{_≡_, refl, subst, _∙_}
+use Prim.Native.Nat.{ℕ, _≤_}
 use native.Mathlib.Omega.{arith}
 use lib.ListN.{length}
 use denote.Ref.{now}
-use Rattle.netlist.specs.Layout.{designOf, Design}
-use Rattle.rules.specs.Sound.{Sound}
-use Rattle.rules.proofs.Acceptance.{holds-record}
-use Rattle.signal.specs.Asks.{asksOf, demandOf, asked}
-use Rattle.signal.specs.AskLists.{Named}
-use Rattle.signal.specs.declared.Ask.{Ask}
-use Rattle.signal.proofs.AskedNothing.{asked-none}
-use Rattle.care.specs.Least.{grant, maskAt}
-use Rattle.care.proofs.Rounds.{asked-named}
-use Rattle.sweep.specs.Sweep.{marksOf}
-use Rattle.sweep.proofs.SweepLaws.{Sweeping, sweep-begins, sweep-step, sweep-past, sweep-ends}
+use Rattle.netlist.specs.Layout.{designOf, countOf}
+use Rattle.sweep.specs.Marks.{Highest}
+use Rattle.sweep.specs.Sweep.{Ready, Swept}
+use Rattle.sweep.proofs.SweepLaws.{between-fits, sweep-begins, sweep-step}
 use Rattle.sweep.proofs.sweep.Statement.{statement}
 use Rattle.sweep.proofs.sweep.Tie as tie
 
--- a turn at the record below j, whose D has been worked out as D
-module _ (d : Design) (s : Sound d) (before masks : List ℕ) (again j D : ℕ) (h : 0 < j) (w : Sweeping d before masks again j) (q : D ≡ demandOf (d .at (j - 1)) (maskAt masks (j - 1))) where
-  here : Sweeping d before masks again (suc (j - 1))
-  here = subst (λ (n : ℕ). Sweeping d before masks again n) (omega arith) w
-
-  passed : D ≡ 0 → Sweeping d before masks again (j - 1)
-  passed e = sweep-past d before masks again (j - 1) here (asked-none (d .at) (maskAt masks) (j - 1) _ (sym q ∙ e))
-
-  module _ (xs : List Ask) (e : xs ≡ asksOf (d .at) (d .at (j - 1) .kind) D) where
-    read : xs ≡ asked (d .at) (j - 1) (maskAt masks (j - 1))
-    unfolding asked
-    read = e ∙ ap (asksOf (d .at) (d .at (j - 1) .kind)) q
-
-    named : Named (length masks) xs
-    named = rw read (asked-named d s masks (here .size) (j - 1) (here .place) (maskAt masks (j - 1)))
-
-    turn : (after : List ℕ) (next : ℕ) → after ≡ grant xs masks → next ≡ marksOf (j - 1) again xs masks → Sweeping d before after next (j - 1)
-    turn after next a m = rw (a, m, read) (sweep-step d s before masks again (j - 1) here)
-
 abbrev Inv-loop : tie.InvT-loop
-Inv-loop file list₀ top again₀ i₀ list again i = Sweeping (designOf file) list₀ list again i
+Inv-loop file list₀ marks₀ i₀ list marks i = (i ≤ countOf file) × (length marks ≡ length marks₀) × Swept (designOf file) i list₀ list marks
 
 abbrev μ-loop : tie.MeasureT-loop
-μ-loop file list₀ top again₀ i₀ list again i = i
+μ-loop file list₀ marks₀ i₀ list marks i = i
+
+highest-below-requires : tie.Need-highest-below-requires Inv-loop μ-loop
+unfolding designOf
+highest-below-requires c κs = let r = c .before .before .before .before .pre .0 .room in let e = c .before .before .before .before .pre .0 .fits .size in omega arith
 
 loop-holds : tie.Need-loop-holds Inv-loop μ-loop
 unfolding designOf
-loop-holds c = let p = c .before .before .pre in sweep-begins _ _ _ (p .low) (p .fits) (p .settled)
+loop-holds c = let p = c .before .before .before .before .before .pre in
+    let e = p .0 .fits .size in
+    let g = c .highest-below .ensures in
+    let b = g .below in (
+      (let z : c .highest-below .result ≤ countOf (now (c .before .before .before .before .before .args .file)) = omega arith in z),
+      refl,
+      sweep-begins (designOf (now (c .before .before .before .before .before .args .file))) _ _ _ (p .0 .fits) (p .1) (subst (λ (n : ℕ). Highest (now (c .before .before .before .before .before .args .marks)) n (c .highest-below .result)) e g),
+    )
 
-sub-i : tie.Need-sub-i Inv-loop μ-loop
-sub-i c = omega arith
+sub-unmark : tie.Need-sub-unmark Inv-loop μ-loop
+sub-unmark c = let t = c .before .loop-test .taken in omega arith
 
-mul-demand-at : tie.Need-mul-demand-at Inv-loop μ-loop
+unmark-requires : tie.Need-unmark-requires Inv-loop μ-loop
+unmark-requires c κs = let r = c .before .before .before .before .before .before .before .before .pre .0 .room in let v = c .before .before .loop .inv in let l = v .0 in let e = v .1 in omega arith
+
+sub-visit : tie.Need-sub-visit Inv-loop μ-loop
+sub-visit c = let t = c .before .before .before .before .before .before .loop-test .taken in omega arith
+
+visit-requires : tie.Need-visit-requires Inv-loop μ-loop
 unfolding designOf
-mul-demand-at c = let f = c .before .before .before .before .pre .accepted .sound .few in let l = c .before .loop .inv .place in omega arith
+visit-requires c κs = let p = c .before .before .before .before .before .before .before .before .before .before .before .before .before .pre .0 in
+    let v = c .before .before .before .before .before .before .before .loop .inv in
+    let l = v .0 in
+    let e = v .1 ∙ refl in
+    let m = c .before .before .before .marks .given in
+    let r = p .room in
+    (record { accepted = p .accepted; fits = between-fits (designOf (now (c .before .before .before .before .before .before .before .before .before .before .before .before .before .args .file))) (p .accepted .sound) _ _ (p .fits) (v .2 .between); room = omega arith }, omega arith, l)
 
-slice-read-demand-at : tie.Need-slice-read-demand-at Inv-loop μ-loop
-slice-read-demand-at c = let e = c .before .before .loop .inv .size in let l = c .before .before .loop .inv .place in omega arith
+sub-highest-below : tie.Need-sub-highest-below Inv-loop μ-loop
+sub-highest-below c = let t = c .before .before .before .before .before .before .before .before .before .before .before .before .loop-test .taken in omega arith
 
-demand-at-requires : tie.Need-demand-at-requires Inv-loop μ-loop
-unfolding designOf
-demand-at-requires c κs =
-    holds-record _ (c .before .before .before .before .before .pre .accepted) _
-    (let l = c .before .before .loop .inv .place in let t = c .before .loop-test .taken in omega arith)
-
-asked-requires : tie.Need-asked-requires Inv-loop μ-loop
-unfolding designOf
-asked-requires c κs =
-    let pre = c .before .before .before .before .before .before .before .pre in
-    let t = c .before .before .before .loop-test .taken in
-    (pre .accepted, let l = c .before .before .before .before .loop .inv .place in omega arith)
-
-join-all-requires : tie.Need-join-all-requires Inv-loop μ-loop
-join-all-requires c κs =
-    let loop = c .before .before .before .before .before .before .loop in
-    named (designOf (now (c .before .before .before .before .before .before .before .before .before .args .file)))
-    (c .before .before .before .before .before .before .before .before .before .pre .accepted .sound) _ (loop .list) _ (loop .i) _
-    (c .before .before .before .before .before .loop-test .taken) (loop .inv) (c .before .before .before .demand-at .ensures) _ (c .before .asked .ensures)
+highest-below-requires-2 : tie.Need-highest-below-requires-2 Inv-loop μ-loop
+highest-below-requires-2 c κs = let r = c .before .before .before .before .before .before .before .before .before .before .before .before .before .before .before .before .before .before .before .pre .0 .room in let v = c .before .before .before .before .before .before .before .before .before .before .before .before .before .loop .inv in let l = v .0 in let e = v .1 in let m = c .before .before .before .before .before .before .before .before .before .marks .given in let n = c .before .before .marks2 .given in omega arith
 
 loop-less : tie.Need-loop-less Inv-loop μ-loop
-loop-less c = omega arith
+loop-less c = let t = c .before .before .before .before .before .before .before .before .before .before .before .before .before .loop-test .taken in let b = c .highest-below2 .ensures .below in omega arith
 
 loop-again : tie.Need-loop-again Inv-loop μ-loop
-loop-again c =
-    let loop = c .before .before .before .before .before .before .before .before .before .loop in
-    let joins = c .before .before .join-all .ensures in
-    turn (designOf (now (c .before .before .before .before .before .before .before .before .before .before .before .before .args .file)))
-    (c .before .before .before .before .before .before .before .before .before .before .before .before .pre .accepted .sound) _ (loop .list) _ (loop .i) _
-    (c .before .before .before .before .before .before .before .before .loop-test .taken) (loop .inv) (c .before .before .before .before .before .before .demand-at .ensures) _
-    (c .before .before .before .before .asked .ensures) _ _ (joins .0) (joins .1)
-
-loop-less-2 : tie.Need-loop-less-2 Inv-loop μ-loop
-loop-less-2 c = omega arith
-
-loop-again-2 : tie.Need-loop-again-2 Inv-loop μ-loop
-loop-again-2 c =
-    let loop = c .before .before .before .before .loop in
-    passed (designOf (now (c .before .before .before .before .before .before .before .args .file)))
-    (c .before .before .before .before .before .before .before .pre .accepted .sound) _ (loop .list) _ (loop .i) _
-    (c .before .before .before .loop-test .taken) (loop .inv) (c .before .demand-at .ensures) (c .if1 .left)
+unfolding designOf
+loop-again c = let p = c .before .before .before .before .before .before .before .before .before .before .before .before .before .before .before .before .before .before .before .before .pre .0 in
+    let v = c .before .before .before .before .before .before .before .before .before .before .before .before .before .before .loop .inv in
+    let t = c .before .before .before .before .before .before .before .before .before .before .before .before .before .loop-test .taken in
+    let l = v .0 in
+    let g = c .highest-below2 .ensures in
+    let b = g .below in (
+      (let z : c .highest-below2 .result ≤ countOf (now (c .before .before .before .before .before .before .before .before .before .before .before .before .before .before .before .before .before .before .before .before .args .file)) = omega arith in z),
+      c .before .before .before .marks2 .given ∙ c .before .before .before .before .before .before .before .before .before .before .marks .given ∙ v .1,
+      sweep-step (designOf (now (c .before .before .before .before .before .before .before .before .before .before .before .before .before .before .before .before .before .before .before .before .args .file))) (p .accepted .sound) (c .before .before .before .before .before .before .before .before .before .before .before .before .before .before .loop .i) _ t _ (c .before .before .before .before .before .before .before .before .before .before .before .before .before .before .loop .list) _ (c .before .before .before .before .before .before .before .before .before .before .before .before .before .before .loop .marks) _ _ (p .fits) (v .2) (c .before .before .before .before .before .before .before .before .before .before .before .unmark .ensures) (c .before .before .before .before .before .before .visit .ensures) g,
+    )
 
 same-length : tie.Need-same-length Inv-loop μ-loop
-same-length c = c .before .loop .inv .size ∙ sym (c .before .before .before .before .pre .fits .size)
+same-length c = c .before .loop .inv .2 .between .size
+
+same-length-2 : tie.Need-same-length-2 Inv-loop μ-loop
+same-length-2 c = c .before .loop .inv .1
 
 returns : tie.Need-returns Inv-loop μ-loop
-returns c =
-    let args = c .before .before .before .before .args in
-    let loop = c .before .loop in
-    sweep-ends _ _ _ _ (subst (λ (n : ℕ). Sweeping (designOf (now (args .file))) (now (args .list)) (loop .list) (loop .again) n)
-    (let t = c .loop-test .left in omega arith) (loop .inv))
+returns c = let t = c .loop-test .left in
+    let v = c .before .loop .inv in
+    subst (λ (n : ℕ). Swept (designOf (now (c .before .before .before .before .before .before .before .args .file))) n (now (c .before .before .before .before .before .before .before .args .list)) (c .before .loop .list) (c .before .loop .marks)) (omega arith) (v .2)
 
 pub sweep-spec : {M : Type 1} → statement M
 sweep-spec =
@@ -117,16 +91,16 @@ sweep-spec =
     (tie.spec
     Inv-loop
     μ-loop
+    highest-below-requires
     loop-holds
-    sub-i
-    mul-demand-at
-    slice-read-demand-at
-    demand-at-requires
-    asked-requires
-    join-all-requires
+    sub-unmark
+    unmark-requires
+    sub-visit
+    visit-requires
+    sub-highest-below
+    highest-below-requires-2
     loop-less
     loop-again
-    loop-less-2
-    loop-again-2
     same-length
+    same-length-2
     returns)
