@@ -33,7 +33,7 @@ fn passed(low: usize, i: usize, at: usize) -> bool
     at < low || i <= at
 }
 
-// Joins a mask that is asked of an operand to the operand's own. An operand that gains a bit and has been passed is marked.
+// Joins a mask that is asked of an operand to the operand's own. An operand that gains a bit is marked, unless the visit still comes to it.
 fn join(list: &mut [u64], marks: &mut [u64], ask: Ask, low: usize, i: usize)
     requires { ⌜ (ask .operand < length (now list)) × (ask .operand < 64 * length (now marks)) ⌝ }
     ensures { λ r. ⌜ Joins low i (ask ∷ []) (now (list .entry)) (now (list .exit)) (now (marks .entry)) (now (marks .exit)) ⌝ }
@@ -50,7 +50,7 @@ fn join(list: &mut [u64], marks: &mut [u64], ask: Ask, low: usize, i: usize)
     }
 }
 
-// Joins all that record i asks. A single ask has a call of its own, so that nothing has to stand in for a second and a third.
+// Joins all that record i asks.
 fn join_all(list: &mut [u64], marks: &mut [u64], asks: Asks, low: usize, i: usize)
     requires { ⌜ Named (length (now list)) (listed asks) × (length (now list) < 64 * length (now marks)) ⌝ }
     ensures { λ r. ⌜ Joins low i (listed asks) (now (list .entry)) (now (list .exit)) (now (marks .entry)) (now (marks .exit)) ⌝ }
@@ -59,11 +59,10 @@ fn join_all(list: &mut [u64], marks: &mut [u64], asks: Asks, low: usize, i: usiz
     if count == 0 {
         return;
     }
+    join(list, marks, asks.first, low, i);
     if count == 1 {
-        join(list, marks, asks.first, low, i);
         return;
     }
-    join(list, marks, asks.first, low, i);
     join(list, marks, asks.second, low, i);
     if count == 2 {
         return;
@@ -100,7 +99,7 @@ fn sweep(file: &[u8], list: &mut [u64], marks: &mut [u64])
     }
 }
 
-// The same as `raise`, with words for the marks. The first visit is of all records, so it does not matter which are marked before.
+// The same as `raise`, with words for the marks. Each record is visited once, whichever are marked before, and then as often as marks are left.
 fn settle(file: &[u8], list: &mut [u64], marks: &mut [u64])
     requires { ⌜ Ready (now file) (now list) (now marks) ⌝ }
     ensures { λ r. ⌜ now (list .exit) ≡ leastAbove (designOf (now (file .entry))) (now (list .entry)) ⌝ }

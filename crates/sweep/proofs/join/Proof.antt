@@ -45,7 +45,8 @@ returns-2 : tie.Need-returns-2
 unfolding grant
 returns-2 c = let s = c .before .before .before .before .before .before .before .before .before .before .before in
     let args = s .args in
-    record { granted = refl; notes = noted-marked (args .low) (args .i) (now (args .list)) (now (args .marks)) (args .ask) (s .pre .0) _ (c .before .before .before .before .before .before .if1 .left) (c .before .before .mark .ensures) }
+    let changed = c .before .before .before .before .before .before .if1 .left in
+    record { granted = refl; notes = noted-marked (args .low) (args .i) (now (args .list)) (now (args .marks)) (args .ask) (s .pre .0) _ changed (c .before .before .mark .ensures) }
 
 same-length-3 : tie.Need-same-length-3
 same-length-3 c = search needs
@@ -54,7 +55,8 @@ returns-3 : tie.Need-returns-3
 unfolding grant
 returns-3 c = let s = c .before .before .before .before .before .before .before in
     let args = s .args in
-    record { granted = refl; notes = noted-coming (args .low) (args .i) (now (args .list)) (now (args .marks)) (args .ask) (s .pre .0) (not-passed _ _ _ (sym (c .before .passed .ensures) ∙ c .if2 .left)) }
+    let coming = not-passed _ _ _ (sym (c .before .passed .ensures) ∙ c .if2 .left) in
+    record { granted = refl; notes = noted-coming (args .low) (args .i) (now (args .list)) (now (args .marks)) (args .ask) (s .pre .0) coming }
 
 pub join-spec : {M : Type 1} → statement M
 join-spec =

@@ -11,7 +11,10 @@ slice-aggregate-settle c = search needs
 
 settle-requires : tie.Need-settle-requires
 unfolding designOf
-settle-requires c κs = let p = c .before .before .before .before .pre in let f = p .0 .sound .few in let m = c .marks .given in record { accepted = p .0; fits = p .1; room = omega arith }
+settle-requires c κs = let p = c .before .before .before .before .pre in
+    let f = p .0 .sound .few in
+    let m = c .marks .given in
+    record { accepted = p .0; fits = p .1; room = omega arith }
 
 same-length : tie.Need-same-length
 same-length c = search needs

@@ -84,7 +84,8 @@ sub-i c = let t = c .loop-test .taken in omega arith
 
 mul-demand-at : tie.Need-mul-demand-at Inv-loop μ-loop
 unfolding designOf
-mul-demand-at c = let f = c .before .before .before .before .before .pre .0 .accepted .sound .few in let h = c .before .before .before .before .before .pre .2 in let l = c .before .loop .inv .1 in omega arith
+mul-demand-at c = let start = c .before .before .before .before .before in
+    let f = start .pre .0 .accepted .sound .few in let h = start .pre .2 in let l = c .before .loop .inv .1 in omega arith
 
 slice-read-demand-at : tie.Need-slice-read-demand-at Inv-loop μ-loop
 unfolding designOf
@@ -114,30 +115,44 @@ asked-requires c κs = let p = c .before .before .before .before .before .before
 
 join-all-requires : tie.Need-join-all-requires Inv-loop μ-loop
 unfolding designOf
-join-all-requires c κs = let p = c .before .before .before .before .before .before .before .before .before .before .before .pre in
-    let v = c .before .before .before .before .before .before .before .loop .inv in
+join-all-requires c κs = let demanding = c .before .before .before .before in
+    let tested = demanding .before .before in
+    let looping = tested .before in
+    let start = looping .before .before .before .before in
+    let p = start .pre in
+    let v = looping .loop .inv in
     let l = v .1 in
     let h = p .2 in
     let e = v .2 in
     let r = p .0 .room in
     let z = v .3 .between .size in
     let y = p .0 .fits .size in
-    (asks-named (designOf (now (c .before .before .before .before .before .before .before .before .before .before .before .args .file))) (p .0 .accepted .sound) _ (c .before .before .before .before .before .before .before .loop .i) _ _ _ (c .before .before .before .before .before .before .before .loop .list) _ _ (p .0 .fits) (c .before .before .before .before .before .before .loop-test .taken) (omega arith) (v .3) (c .before .before .before .before .demand-at .ensures) _ (c .before .before .asked .ensures), omega arith)
+    let n =
+    asks-named (designOf (now (start .args .file))) (p .0 .accepted .sound) _ (looping .loop .i) _ _ _ (looping .loop .list) _ _ (p .0 .fits)
+    (tested .loop-test .taken) (omega arith) (v .3) (demanding .demand-at .ensures) _ (c .before .before .asked .ensures) in
+    (n, omega arith)
 
 loop-less : tie.Need-loop-less Inv-loop μ-loop
 loop-less c = let t = c .before .before .before .before .before .before .before .before .before .before .before .loop-test .taken in omega arith
 
 loop-again : tie.Need-loop-again Inv-loop μ-loop
 unfolding designOf
-loop-again c = let p = c .before .before .before .before .before .before .before .before .before .before .before .before .before .before .before .before .pre in
-    let v = c .before .before .before .before .before .before .before .before .before .before .before .before .loop .inv in
+loop-again c = let joined-all = c .before .before .before .before in
+    let asking = joined-all .before .before .before in
+    let demanding = asking .before .before in
+    let tested = demanding .before .before in
+    let looping = tested .before in
+    let start = looping .before .before .before .before in
+    let p = start .pre in
+    let v = looping .loop .inv in
     let l = v .1 in
     let h = p .2 in
-    let t = c .before .before .before .before .before .before .before .before .before .before .before .loop-test .taken in (
-      (let z : c .before .before .before .before .before .before .before .before .before .before .before .before .before .before .before .before .args .low ≤ c .before .before .before .before .before .before .before .before .before .before .before .before .loop .i - 1 = omega arith in z),
-      (let z : c .before .before .before .before .before .before .before .before .before .before .before .before .loop .i - 1 ≤ c .before .before .before .before .before .before .before .before .before .before .before .before .before .before .before .before .args .high = omega arith in z),
+    let t = tested .loop-test .taken in (
+      (let z : start .args .low ≤ looping .loop .i - 1 = omega arith in z),
+      (let z : looping .loop .i - 1 ≤ start .args .high = omega arith in z),
       c .before .marks .given ∙ v .2,
-      turn (designOf (now (c .before .before .before .before .before .before .before .before .before .before .before .before .before .before .before .before .args .file))) (p .0 .accepted .sound) _ (c .before .before .before .before .before .before .before .before .before .before .before .before .loop .i) _ _ _ (c .before .before .before .before .before .before .before .before .before .before .before .before .loop .list) _ _ (p .0 .fits) t (omega arith) (v .3) (c .before .before .before .before .before .before .before .before .before .demand-at .ensures) _ (c .before .before .before .before .before .before .before .asked .ensures) _ _ (c .before .before .before .before .join-all .ensures),
+      turn (designOf (now (start .args .file))) (p .0 .accepted .sound) _ (looping .loop .i) _ _ _ (looping .loop .list) _ _ (p .0 .fits) t (omega arith) (v .3)
+          (demanding .demand-at .ensures) _ (asking .asked .ensures) _ _ (joined-all .join-all .ensures),
     )
 
 loop-less-2 : tie.Need-loop-less-2 Inv-loop μ-loop
@@ -145,15 +160,19 @@ loop-less-2 c = let t = c .before .before .before .loop-test .taken in omega ari
 
 loop-again-2 : tie.Need-loop-again-2 Inv-loop μ-loop
 unfolding designOf
-loop-again-2 c = let p = c .before .before .before .before .before .before .before .before .pre in
-    let v = c .before .before .before .before .loop .inv in
+loop-again-2 c = let tested = c .before .before .before in
+    let looping = tested .before in
+    let start = looping .before .before .before .before in
+    let p = start .pre in
+    let v = looping .loop .inv in
     let l = v .1 in
     let h = p .2 in
-    let t = c .before .before .before .loop-test .taken in (
-      (let z : c .before .before .before .before .before .before .before .before .args .low ≤ c .before .before .before .before .loop .i - 1 = omega arith in z),
-      (let z : c .before .before .before .before .loop .i - 1 ≤ c .before .before .before .before .before .before .before .before .args .high = omega arith in z),
+    let t = tested .loop-test .taken in (
+      (let z : start .args .low ≤ looping .loop .i - 1 = omega arith in z),
+      (let z : looping .loop .i - 1 ≤ start .args .high = omega arith in z),
       v .2,
-      passed-by (designOf (now (c .before .before .before .before .before .before .before .before .args .file))) (p .0 .accepted .sound) _ (c .before .before .before .before .loop .i) _ _ _ (c .before .before .before .before .loop .list) _ _ (p .0 .fits) t (omega arith) (v .3) (c .before .demand-at .ensures) (c .if1 .left),
+      passed-by (designOf (now (start .args .file))) (p .0 .accepted .sound) _ (looping .loop .i) _ _ _ (looping .loop .list) _ _ (p .0 .fits) t (omega arith) (v .3)
+          (c .before .demand-at .ensures) (c .if1 .left),
     )
 
 same-length : tie.Need-same-length Inv-loop μ-loop
@@ -163,10 +182,12 @@ same-length-2 : tie.Need-same-length-2 Inv-loop μ-loop
 same-length-2 c = c .before .loop .inv .2
 
 returns : tie.Need-returns Inv-loop μ-loop
-returns c = let t = c .loop-test .left in
-    let v = c .before .loop .inv in
-    let l = v .0 in
-    subst (λ (n : ℕ). Visited (designOf (now (c .before .before .before .before .before .args .file))) (c .before .before .before .before .before .args .low) n (c .before .before .before .before .before .args .high) (now (c .before .before .before .before .before .args .list)) (c .before .loop .list) (now (c .before .before .before .before .before .args .marks)) (c .before .loop .marks)) (omega arith) (v .3)
+returns c = let args = c .before .before .before .before .before .args in
+    let loop = c .before .loop in
+    let t = c .loop-test .left in
+    let l = loop .inv .0 in
+    subst (λ (n : ℕ). Visited (designOf (now (args .file))) (args .low) n (args .high) (now (args .list)) (loop .list) (now (args .marks)) (loop .marks))
+    (omega arith) (loop .inv .3)
 
 pub visit-spec : {M : Type 1} → statement M
 visit-spec =
