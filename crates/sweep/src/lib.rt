@@ -50,7 +50,7 @@ fn join(list: &mut [u64], marks: &mut [u64], ask: Ask, low: usize, i: usize)
     }
 }
 
-// Joins all that record i asks.
+// Joins all that record i asks. A single ask has a call of its own, so that nothing has to stand in for a second and a third.
 fn join_all(list: &mut [u64], marks: &mut [u64], asks: Asks, low: usize, i: usize)
     requires { ⌜ Named (length (now list)) (listed asks) × (length (now list) < 64 * length (now marks)) ⌝ }
     ensures { λ r. ⌜ Joins low i (listed asks) (now (list .entry)) (now (list .exit)) (now (marks .entry)) (now (marks .exit)) ⌝ }
@@ -59,10 +59,11 @@ fn join_all(list: &mut [u64], marks: &mut [u64], asks: Asks, low: usize, i: usiz
     if count == 0 {
         return;
     }
-    join(list, marks, asks.first, low, i);
     if count == 1 {
+        join(list, marks, asks.first, low, i);
         return;
     }
+    join(list, marks, asks.first, low, i);
     join(list, marks, asks.second, low, i);
     if count == 2 {
         return;
