@@ -202,9 +202,12 @@ int main(int argc, char **argv)
     masks_grid();
     masks_moved();
     masks_constants();
+    masks_feedback();
+    masks_chains();
+    masks_rings();
+    masks_loops();
     masks_least();
     masks_columns();
-    masks_feedback();
     masks_drawn(seed);
     printf("%lu files tried\n", trials_made());
     return tests_end() ? 0 : 1;
