@@ -35,7 +35,7 @@ module _ (marks : List ℕ) (i v new : ℕ) (h : i < 64 * length marks) (here : 
       ∙ ap (λ (k : ℕ). bit (wordAt marks k) (j % 64)) (sym e)
   other j n (inr m) = ap (λ (w : ℕ). bit w (j % 64)) (getD-set-other marks (i / 64) (j / 64) new 0 m)
 
-  pub put-word : Put marks i v (set marks (i / 64) new)
+  put-word : Put marks i v (set marks (i / 64) new)
   put-word = record {
     here = ap (λ (w : ℕ). bit w (i % 64)) word ∙ here;
     others = λ j n. other j n (same-or-not (j / 64) (i / 64));
@@ -86,7 +86,7 @@ module _ (marks : List ℕ) (i at word : ℕ) (s : Scanned marks i at word) wher
       ∙ ap (λ (w : ℕ). bit w k) (sym (s .marks-below))
 
   -- none of them stands at the word's length or above
-  pub none-above : (j : ℕ) → 64 * at + bitLength word ≤ j → j < i → markAt marks j ≡ 0
+  none-above : (j : ℕ) → 64 * at + bitLength word ≤ j → j < i → markAt marks j ≡ 0
   none-above j l h = go (below-or-not j (64 * at + 64))
     where
       go : (j < 64 * at + 64) ⊎ (64 * at + 64 ≤ j) → markAt marks j ≡ 0

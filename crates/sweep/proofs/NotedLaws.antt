@@ -52,7 +52,7 @@ module _ (low i : ℕ) (masks marks : List ℕ) (x : Ask) (h : x .operand < leng
   noted-coming c = record { kept = λ j e. refl; gained = λ j q m. absurd (m (joined-other masks x h j (λ e. c (subst (Passed low i) e q)))) }
 
 -- two one after the other
-pub noted-both : {low i : ℕ} {before between after marks first second : List ℕ} → Inside (maskAt before) (maskAt between) → Inside (maskAt between) (maskAt after)
+noted-both : {low i : ℕ} {before between after marks first second : List ℕ} → Inside (maskAt before) (maskAt between) → Inside (maskAt between) (maskAt after)
     → Noted low i before between marks first → Noted low i between after first second → Noted low i before after marks second
 noted-both {low} {i} {before} {between} {after} {marks} {first} {second} l g a b =
     record {
@@ -77,7 +77,7 @@ pub joins-none : (low i : ℕ) (masks marks : List ℕ) → Joins low i [] masks
 unfolding grant
 joins-none low i masks marks = record { granted = refl; notes = noted-same low i masks marks }
 
-pub joins-length : {low i : ℕ} {xs : List Ask} {before after marks noted : List ℕ} → Named (length before) xs → Joins low i xs before after marks noted
+joins-length : {low i : ℕ} {xs : List Ask} {before after marks noted : List ℕ} → Named (length before) xs → Joins low i xs before after marks noted
     → length after ≡ length before
 joins-length {xs = xs} {before = before} n j = ap length (j .granted) ∙ length-grant xs before n
 

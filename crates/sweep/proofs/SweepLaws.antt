@@ -51,11 +51,11 @@ module _ (d : Design) (s : Sound d) (before after : List ℕ) (f : Fits d before
   narrow : Inside (maskAt after) (allBits d)
   narrow = let g = between-fits d s before after f b in list-inside (d .count) after (allBits d) (g .size) (g .narrow)
 
-  pub ones-rise : onesSum d before ≤ onesSum d after
+  ones-rise : onesSum d before ≤ onesSum d after
   ones-rise = ones-grow d s before after (record { each = b .above })
 
   -- a mask that changed has more ones
-  pub ones-more : (j : ℕ) → j < d .count → maskAt after j ≢ maskAt before j → onesSum d before < onesSum d after
+  ones-more : (j : ℕ) → j < d .count → maskAt after j ≢ maskAt before j → onesSum d before < onesSum d after
   ones-more j h n = go (below-or-not (onesSum d before) (onesSum d after))
     where
       go : (onesSum d before < onesSum d after) ⊎ (onesSum d after ≤ onesSum d before) → onesSum d before < onesSum d after
