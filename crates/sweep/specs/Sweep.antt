@@ -40,19 +40,19 @@ pub record Noted (low i : ℕ) (before after marks noted : List ℕ) : Type 0 wh
   pub kept : (j : ℕ) → maskAt after j ≡ maskAt before j → markAt noted j ≡ markAt marks j
   pub gained : (j : ℕ) → Passed low i j → maskAt after j ≢ maskAt before j → markAt noted j ≡ 1
 
--- What joining asks to masks does while a visit stands there: they are granted, and marks are noted.
+-- What it does when asks are joined to masks: the asks are granted, and marks are noted.
 pub record Joins (low i : ℕ) (xs : List Ask) (before after marks noted : List ℕ) : Type 0 where
   pub granted : after ≡ grant xs before
   pub notes : Noted low i before after marks noted
 
--- The file is accepted, a list has a mask within the width of each record, and there is a mark for each.
+-- The file is accepted, a list has a mask within the width of each record, and there are marks for one number more than there are records.
 pub record Ready (file masks marks : List ℕ) : Type 0 where
   pub accepted : Acceptance file (countOf file)
   pub fits : Fits (designOf file) masks
   pub room : countOf file < 64 * length marks
 
--- What a visit from record `high` - 1 down to i does, of all that go down to `low`: each record that it has visited is marked or settled, and
--- so is each that was before, but for those that it still comes to. A new mark means that a bit was added.
+-- What a visit that began at record `high` - 1 and goes down to `low` has done when it stands at i: each record that it has visited is marked or
+-- settled, and so is each that was before, but for those that it still comes to. A new mark means that a bit was added.
 pub record Visited (d : Design) (low i high : ℕ) (before after marks noted : List ℕ) : Type 0 where
   pub between : Between d before after
   pub covered : (j : ℕ) → j < d .count → Passed low i j → ((i ≤ j) × (j < high)) ⊎ Covered d before marks j → Covered d after noted j

@@ -23,7 +23,7 @@ ghost use Rattle.sweep.specs.Sweep.{Joins, Ready, AllCovered, Visited, S
 
 mod marks;
 
-// Words for the marks of the longest file, with one record more to look below.
+// Words for the marks of the longest file, and for the number behind its last record, which is looked below.
 const MARK_WORDS: usize = Record::MAX_COUNT / 64 + 1;
 
 // Whether a visit that goes down to record `low` and stands at record i comes to a record no more.

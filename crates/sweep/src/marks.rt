@@ -1,5 +1,5 @@
 // A set of marks, one bit for each record, 64 to a word.
-// A caller has a word for each record that it names, and for one number more where it looks below that.
+// A caller has a word that holds the mark of the record it names, also of the one that it looks below.
 use bits::mask::bit_length;
 use bits::mask::cut_to;
 ghost use mathlib.Core.Path.{_≡_};
