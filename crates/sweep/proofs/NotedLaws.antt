@@ -4,7 +4,7 @@ use mathlib.Core.Path.{_≡_, refl, sym, ap, subst, _∙_}
 use mathlib.Core.Bool.{Bool, true, false, true≢false, _||_}
 use mathlib.Core.Logic.{_≢_, _⊎_, inl, inr}
 use mathlib.Core.List.{List, [], _∷_}
-use Prim.Native.Nat.{ℕ, _<_}
+use Prim.Native.Nat.{ℕ, _≤_, _<_}
 use native.Mathlib.Omega.{arith}
 use lib.Bits.{bitOr}
 use lib.Dec.{leb, ltb}
@@ -19,14 +19,14 @@ use Rattle.care.proofs.Families.{Inside, same-or-not, joined-same, joined-other
 use Rattle.sweep.specs.Marks.{markAt, Put}
 use Rattle.sweep.specs.Sweep.{Passed, Noted, Joins}
 
--- the code's test whether a record has been passed
-pub not-passed : (low i j : ℕ) → ltb j low || leb i j ≡ false → Passed low i j → ⊥
-not-passed low i j e = go (ltb j low) refl e
+-- the code's test whether a record has been passed; one that finds more records passed will do as well
+pub not-passed : {from to : ℕ} (low i j : ℕ) → ltb j from || leb to j ≡ false → low ≤ from → to ≤ i → Passed low i j → ⊥
+not-passed {from} {to} low i j e m n = go (ltb j from) refl e
   where
-    go : (b : Bool) → ltb j low ≡ b → b || leb i j ≡ false → Passed low i j → ⊥
+    go : (b : Bool) → ltb j from ≡ b → b || leb to j ≡ false → Passed low i j → ⊥
     go true q e p = true≢false e
-    go false q e (inl h) = let l = ltb-false j low q in omega arith
-    go false q e (inr h) = let l = leb-false i j e in omega arith
+    go false q e (inl h) = let l = ltb-false j from q in omega arith
+    go false q e (inr h) = let l = leb-false to j e in omega arith
 
 -- nothing changes
 pub noted-same : (low i : ℕ) (masks marks : List ℕ) → Noted low i masks masks marks marks
@@ -50,6 +50,14 @@ module _ (low i : ℕ) (masks marks : List ℕ) (x : Ask) (h : x .operand < leng
   -- the visit still comes to it
   pub noted-coming : (Passed low i (x .operand) → ⊥) → Noted low i masks (joined masks x) marks marks
   noted-coming c = record { kept = λ j e. refl; gained = λ j q m. absurd (m (joined-other masks x h j (λ e. c (subst (Passed low i) e q)))) }
+
+-- the same where the visit stands higher up, so that fewer records have been passed
+pub noted-higher : {low k i : ℕ} {before after marks noted : List ℕ} → Noted low k before after marks noted → k ≤ i → Noted low i before after marks noted
+noted-higher {low} {k} {i} n l = record { kept = n .kept; gained = λ j p m. n .gained j (earlier j p) m }
+  where
+    earlier : (j : ℕ) → Passed low i j → Passed low k j
+    earlier j (inl h) = inl h
+    earlier j (inr h) = inr (omega arith)
 
 -- two one after the other
 noted-both : {low i : ℕ} {before between after marks first second : List ℕ} → Inside (maskAt before) (maskAt between) → Inside (maskAt between) (maskAt after)

@@ -1,6 +1,7 @@
 -- `sweep::join` meets its contract: a mask that stays is left alone, and one that changes is noted.
 -- Assumes nothing.
 use mathlib.Core.Path.{refl, sym, ap, _∙_}
+use native.Mathlib.Omega.{arith}
 use lib.ListN.{set}
 use lib.Seq.{set-getD}
 use borrow.Author.Needs.{needs}
@@ -55,7 +56,7 @@ returns-3 : tie.Need-returns-3
 unfolding grant
 returns-3 c = let s = c .before .before .before .before .before .before .before in
     let args = s .args in
-    let coming = not-passed _ _ _ (sym (c .before .passed .ensures) ∙ c .if2 .left) in
+    let coming = not-passed (args .low) (args .i) (args .ask .operand) (sym (c .before .passed .ensures) ∙ c .if2 .left) (omega arith) (omega arith) in
     record { granted = refl; notes = noted-coming (args .low) (args .i) (now (args .list)) (now (args .marks)) (args .ask) (s .pre .0) coming }
 
 pub join-spec : {M : Type 1} → statement M

@@ -17,7 +17,7 @@ use Rattle.care.specs.Least.{grant, maskAt, Fits}
 use Rattle.care.proofs.Families.{grant-granted}
 use Rattle.care.proofs.Rounds.{asked-named}
 use Rattle.sweep.specs.Sweep.{Between, Joins, Visited}
-use Rattle.sweep.proofs.NotedLaws.{noted-same}
+use Rattle.sweep.proofs.NotedLaws.{noted-same, noted-higher}
 use Rattle.sweep.proofs.SweepLaws.{between-refl, between-fits, between-grant, visit-begins, visit-step}
 use Rattle.sweep.proofs.visit.Statement.{statement}
 use Rattle.sweep.proofs.visit.Tie as tie
@@ -57,14 +57,14 @@ module _ (d : Design) (s : Sound d) (low j high D : ℕ) (before masks marks cur
     asks-named : Named (length masks) xs
     asks-named = rw read named
 
-    turn : (after noted : List ℕ) → Joins low (j - 1) xs masks after current noted → Visited d low (j - 1) high before after marks noted
+    turn : (after noted : List ℕ) {k : ℕ} → Joins low k xs masks after current noted → k ≤ j - 1 → Visited d low (j - 1) high before after marks noted
     unfolding i
-    turn after noted t =
+    turn after noted t m =
         let g : after ≡ grant (asked (d .at) i (maskAt masks i)) masks = t .granted ∙ ap (λ (ys : List Ask). grant ys masks) read in
         visit-step d s low i high place before masks after marks current noted f here
         (subst (Between d masks) (sym g) (between-grant d s masks fits i place))
         (subst (λ (m : List ℕ). Granted (asked (d .at) i (maskAt masks i)) (maskAt m)) (sym g) (grant-granted (asked (d .at) i (maskAt masks i)) masks named))
-        (t .notes)
+        (noted-higher (t .notes) m)
 
 abbrev Inv-loop : tie.InvT-loop
 Inv-loop file list₀ marks₀ low high i₀ list marks i =
@@ -152,7 +152,7 @@ loop-again c = let joined-all = c .before .before .before .before in
       (let z : looping .loop .i - 1 ≤ start .args .high = omega arith in z),
       c .before .marks .given ∙ v .2,
       turn (designOf (now (start .args .file))) (p .0 .accepted .sound) _ (looping .loop .i) _ _ _ (looping .loop .list) _ _ (p .0 .fits) t (omega arith) (v .3)
-          (demanding .demand-at .ensures) _ (asking .asked .ensures) _ _ (joined-all .join-all .ensures),
+          (demanding .demand-at .ensures) _ (asking .asked .ensures) _ _ (joined-all .join-all .ensures) (omega arith),
     )
 
 loop-less-2 : tie.Need-loop-less-2 Inv-loop μ-loop
