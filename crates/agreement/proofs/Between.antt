@@ -20,19 +20,19 @@ use Rattle.signal.specs.Asks.{demandOf, Granted}
 use Rattle.signal.specs.declared.Ask.{Ask}
 use Rattle.signal.proofs.AskedOperands.{register-asks}
 use Rattle.care.specs.Least.{Closed, maskAt}
-use Rattle.clock.specs.Values.{nextOf, nextWord, startOf, startWord}
+use Rattle.clock.specs.Values.{putWord, withInputs, nextOf, nextWord, startOf, startWord}
+use Rattle.clock.proofs.InputLaws.{input-word}
 use Rattle.clock.proofs.StateLaws.{start-word, next-word}
-use Rattle.agreement.specs.Runs.{putWord, withInputs}
+use Rattle.agreement.specs.Claim.{AtRegisters, AtInputs}
 use Rattle.agreement.proofs.Follow.{Follows, role-same}
-use Rattle.agreement.proofs.OneCycle.{Close}
-use Rattle.agreement.proofs.RunLaws.{input-word}
+use Rattle.agreement.proofs.OneCycle.{AllClose}
 
 pub record Tied (d : Design) (masks board board′ : List ℕ) : Type 0 where
   pub each : (i a k : ℕ) → i < d .count → roleAt d i ≡ Register a k → Agree (demandOf (d .at i) (maskAt masks i)) (wordAt board i) (wordAt board′ i)
 
 -- "equal cared bits at each register" are more than it takes
 pub tied-first : (d : Design) (masks board board′ : List ℕ)
-    → ((i a k : ℕ) → i < d .count → roleAt d i ≡ Register a k → Agree (maskAt masks i) (wordAt board i) (wordAt board′ i)) → Tied d masks board board′
+    → AtRegisters d masks board board′ → Tied d masks board board′
 tied-first d masks board board′ registers =
     record { each = λ i a k h e. agree-within (meet-left (maskAt masks i) (d .at i .keep)) (registers i a k h e) }
 
@@ -54,7 +54,7 @@ module _ (d e : Design) (masks : List ℕ) (f : Follows d e (maskAt masks)) wher
 
   -- "a register's a has D": the values of a agree on its mask, and so on D of the register
   pub tied-next : Sound d → (seed : ℕ → ℕ) → Closed d seed (maskAt masks) → (values values′ : List ℕ)
-      → ((i : ℕ) → i < d .count → Close d (maskAt masks) values values′ i) → Tied d masks (nextOf d values) (nextOf e values′)
+      → AllClose d (maskAt masks) values values′ → Tied d masks (nextOf d values) (nextOf e values′)
   tied-next s seed closed values values′ close =
       record {
         each = λ i a k h q.
@@ -66,7 +66,7 @@ module _ (d e : Design) (masks : List ℕ) (f : Follows d e (maskAt masks)) wher
 
   -- what a cycle needs: the words put at the inputs have equal cared bits, and the words at the registers are tied
   module _ (words words′ : ℕ → ℕ) (board board′ : List ℕ) (size : length board ≡ d .count) (size′ : length board′ ≡ e .count)
-      (tied : Tied d masks board board′) (inputs : (i : ℕ) → i < d .count → roleAt d i ≡ Input → Agree (maskAt masks i) (words i) (words′ i)) where
+      (tied : Tied d masks board board′) (inputs : AtInputs d masks words words′) where
     by-role : (i : ℕ) → i < d .count → (role : Role) → roleAt d i ≡ role → isHeld role ≡ true
         → Agree (D i) (putWord role (words i) (wordAt board i)) (putWord role (words′ i) (wordAt board′ i))
     by-role i h Input q held = agree-within (meet-left (maskAt masks i) (d .at i .keep)) (inputs i h q)

@@ -1,57 +1,45 @@
--- The accepted calls of a run as a chain: each goes on from the board list that the one before it left, and refused calls leave no trace.
+-- The accepted calls of a run as a chain: each goes on from the board that the one before it left, and refused calls leave no trace.
 -- Assumes nothing.
 use mathlib.Core.Path.{_≡_, refl}
 use mathlib.Core.List.{List, [], _∷_, _++_}
 use Prim.Native.Nat.{ℕ, suc}
-use Rattle.netlist.specs.Layout.{designOf}
-use Rattle.clock.specs.Call.{startCall, cycleWith}
 use Rattle.clock.specs.declared.Clocked.{Clocked}
 use Rattle.clock.specs.declared.Clocked.the-variants.{Done, Refused}
-use Rattle.agreement.specs.Runs.{Call, start, cycle, Cycle, Step, started, cycled, withInputs, outcome, callOn, runFrom}
+use Rattle.agreement.specs.Runs.{Machine, Call, start, cycle, Cycle, Step, started, cycled, Outcome, callOn, runFrom}
+use Rattle.agreement.proofs.RunLaws.{start-moves, cycle-moves, start-stays, cycle-stays}
 
--- a start was accepted on this board list, and left that one
-pub record StartedFrom (file board after : List ℕ) : Type 0 where
-  pub accepted : startCall file board .answer ≡ Done
-  pub left : after ≡ startCall file board .board
+-- a cycle was accepted on this board, as some call and with some next list
+pub record CycledFrom {L : Type 0} (machine : Machine L) (board : L) (c : Cycle L) : Type 0 where
+  pub call : ℕ
+  pub next : L
+  pub accepted : machine .cycle call (c .words) board next .answer ≡ Done
+  pub values : c .values ≡ machine .cycle call (c .words) board next .board
 
--- a cycle was accepted on this board list, with values changed in a way that is `allowed`, and left that one
-pub record CycledFrom (allowed : (ℕ → ℕ → ℕ) → Type 0) (file board : List ℕ) (c : Cycle) (after : List ℕ) : Type 0 where
-  pub change : ℕ → ℕ → ℕ
-  pub next : List ℕ
-  pub changed : allowed change
-  pub accepted : cycleWith change file (withInputs (designOf file) (c .words) board) next .answer ≡ Done
-  pub values : c .values ≡ cycleWith change file (withInputs (designOf file) (c .words) board) next .board
-  pub left : after ≡ cycleWith change file (withInputs (designOf file) (c .words) board) next .next
-
-module _ (allowed : (ℕ → ℕ → ℕ) → Type 0) (file : List ℕ) where
-  abbrev pub Chain : List ℕ → List Step → Type 0
+module _ {L : Type 0} (machine : Machine L) where
+  abbrev pub Chain : L → List (Step L) → Type 0
   Chain board [] = Unit {0}
-  Chain board (started ∷ steps) = (after : List ℕ) × StartedFrom file board after × Chain after steps
-  Chain board (cycled c ∷ steps) = (after : List ℕ) × CycledFrom allowed file board c after × Chain after steps
+  Chain board (started ∷ steps) = (machine .start board .answer ≡ Done) × Chain (machine .start board .board) steps
+  Chain board (cycled c ∷ steps) =
+      (s : CycledFrom machine board c) × Chain (machine .cycle (s .call) (c .words) board (s .next) .next) steps
 
-  module _ (change : ℕ → ℕ → ℕ → ℕ) (all : (j : ℕ) → allowed (change j)) where
-    -- an accepted call is the next link, and after a refused one the run is where it was
-    cycle-link : (j : ℕ) (board : List ℕ) (calls : List Call) → ((b : List ℕ) → Chain b (runFrom change file (suc j) b calls))
-        → (words : ℕ → ℕ) (next : List ℕ) (a : Clocked) → cycleWith (change j) file (withInputs (designOf file) words board) next .answer ≡ a
-        → let call = cycleWith (change j) file (withInputs (designOf file) words board) next in
-        let done = outcome a (cycled (record { words = words; values = call .board })) (call .next) board in
-        Chain board (done .steps ++ runFrom change file (suc j) (done .board) calls)
-    cycle-link j board calls rest words next Done e = (
-      cycleWith (change j) file (withInputs (designOf file) words board) next .next,
-      record { change = change j; next = next; changed = all j; accepted = e; values = refl; left = refl },
-      rest (cycleWith (change j) file (withInputs (designOf file) words board) next .next),
-    )
-    cycle-link j board calls rest words next (Refused r i) e = rest board
+  -- an accepted call is the next link, and after a refused one the run is where it was
+  module _ (j : ℕ) (board : L) (calls : List (Call L)) (rest : (b : L) → Chain b (runFrom machine (suc j) b calls)) where
+    abbrev On : Outcome L → Type 0
+    On done = Chain board (done .steps ++ runFrom machine (suc j) (done .board) calls)
 
-    start-link : (j : ℕ) (board : List ℕ) (calls : List Call) → ((b : List ℕ) → Chain b (runFrom change file (suc j) b calls))
-        → (a : Clocked) → startCall file board .answer ≡ a
-        → let done = outcome a started (startCall file board .board) board in Chain board (done .steps ++ runFrom change file (suc j) (done .board) calls)
-    start-link j board calls rest Done e = (startCall file board .board, record { accepted = e; left = refl }, rest (startCall file board .board))
-    start-link j board calls rest (Refused r i) e = rest board
+    start-link : (a : Clocked) → machine .start board .answer ≡ a → On (callOn machine j board start)
+    start-link Done e = rw (start-moves machine j board e) (e, rest (machine .start board .board))
+    start-link (Refused r i) e = rw (start-stays machine j board r i e) (rest board)
 
-    pub chain-of : (j : ℕ) (board : List ℕ) (calls : List Call) → Chain board (runFrom change file j board calls)
-    unfolding runFrom callOn
-    chain-of j board [] = tt
-    chain-of j board (start ∷ calls) = start-link j board calls (λ b. chain-of (suc j) b calls) (startCall file board .answer) refl
-    chain-of j board (cycle words next ∷ calls) =
-        cycle-link j board calls (λ b. chain-of (suc j) b calls) words next (cycleWith (change j) file (withInputs (designOf file) words board) next .answer) refl
+    cycle-link : (words : ℕ → ℕ) (next : L) (a : Clocked) → machine .cycle j words board next .answer ≡ a → On (callOn machine j board (cycle words next))
+    cycle-link words next Done e =
+        rw (cycle-moves machine j board words next e)
+        (record { call = j; next = next; accepted = e; values = refl }, rest (machine .cycle j words board next .next))
+    cycle-link words next (Refused r i) e = rw (cycle-stays machine j board words next r i e) (rest board)
+
+  pub chain-of : (j : ℕ) (board : L) (calls : List (Call L)) → Chain board (runFrom machine j board calls)
+  unfolding runFrom
+  chain-of j board [] = tt
+  chain-of j board (start ∷ calls) = start-link j board calls (λ b. chain-of (suc j) b calls) (machine .start board .answer) refl
+  chain-of j board (cycle words next ∷ calls) =
+      cycle-link j board calls (λ b. chain-of (suc j) b calls) words next (machine .cycle j words board next .answer) refl

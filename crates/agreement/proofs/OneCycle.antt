@@ -34,6 +34,9 @@ pub record Close (d : Design) (M : ℕ → ℕ) (values values′ : List ℕ) (i
   pub second : wordAt values′ i < 2 ^ d .at i .width
   pub fixed : Fixed (d .at i) (wordAt values i)
 
+abbrev pub AllClose : Design → (ℕ → ℕ) → List ℕ → List ℕ → Type 0
+AllClose d M values values′ = (i : ℕ) → i < d .count → Close d M values values′ i
+
 -- where the operands' values are close and the masks grant what is asked, two runs have in common what is asked
 all-met : (d : Design) (M : ℕ → ℕ) (i : ℕ) (x x′ : List ℕ) → ((j : ℕ) → j < i → Close d M x x′ j) → (asks : List Ask) → Named i asks → Granted asks M
     → AllMet (d .at) (wordAt x) (wordAt x′) asks
@@ -118,5 +121,5 @@ module _ (d e : Design) (sd : Sound d) (se : Sound e) (masks : List ℕ) (seed :
   closes zero i l h = absurd (not-suc-le-zero l)
   closes (suc k) i l h = next i h (λ j g. closes k j (omega arith) (omega arith))
 
-  pub cycle-close : (i : ℕ) → i < d .count → Close d (maskAt masks) values values′ i
+  pub cycle-close : AllClose d (maskAt masks) values values′
   cycle-close i h = closes (suc i) i (omega arith) h

@@ -12,7 +12,7 @@ use borrow.Author.Tests.{eqb-true, eqb-false}
 use Rattle.endian.specs.Lists.{wordsOf}
 use Rattle.endian.proofs.ListLaws.{length-words, word-at, sum-mono, sum-same}
 use Rattle.bits.specs.Masks.{Within}
-use Rattle.bits.specs.Words.{lowMask, countOnes}
+use Rattle.bits.specs.Words.{countOnes}
 use Rattle.bits.proofs.Growth.{countOnes-mono, countOnes-le, growth}
 use Rattle.bits.proofs.Order.{within-refl, within-antisym, within-zero, low-within}
 use Rattle.netlist.specs.Kinds.{isOutput}
@@ -20,7 +20,7 @@ use Rattle.netlist.specs.Layout.{Design, designOf, roleAt}
 use Rattle.rules.specs.Sound.{Sound, Acceptance}
 use Rattle.rules.proofs.SoundLaws.{word-64}
 use Rattle.signal.specs.Asks.{asked, Granted}
-use Rattle.care.specs.Least.{Closed, Least, maskAt, outputSeed, roundTo, widthSum, onesSum, settle, leastAbove, masksOf, Fits}
+use Rattle.care.specs.Least.{Closed, Least, maskAt, outputSeed, roundTo, widthSum, onesSum, settle, leastAbove, masksFrom, masksOf, Fits}
 use Rattle.care.proofs.Families.{Inside, inside-refl, inside-trans, granted-more, below-or-not, allBits, all-closed}
 use Rattle.care.proofs.Rounds.{closed-grants, length-round, round-above, round-granted, round-least}
 
@@ -142,40 +142,52 @@ module _ (d : Design) (s : Sound d) where
           least = λ F c i h. good .least (maskAt masks) F c (list-inside (d .count) masks F (f .size) (c .seeded)) .each i;
         }
 
--- the seed of a design: its outputs
-module _ (d : Design) (s : Sound d) where
-  seed-within : (i : ℕ) → Within (outputSeed d i) (lowMask (d .at i .width))
-  seed-within i = go (isOutput (roleAt d i))
-    where
-      go : (b : Bool) → Within (cond b (lowMask (d .at i .width)) 0) (lowMask (d .at i .width))
-      go true = within-refl (lowMask (d .at i .width))
-      go false = within-zero (lowMask (d .at i .width))
+-- a seed within the widths, as a list
+pub words-fit : (d : Design) (seed : ℕ → ℕ) → ((i : ℕ) → i < d .count → Within (seed i) (allBits d i)) → Fits d (wordsOf seed (d .count))
+words-fit d seed narrow =
+    record {
+      size = length-words seed (d .count);
+      narrow = λ i h. subst (λ (m : ℕ). Within m (allBits d i)) (sym (word-at seed (d .count) i h)) (narrow i h);
+    }
 
-  pub seed-fits : Fits d (wordsOf (outputSeed d) (d .count))
-  seed-fits =
-      record {
-        size = length-words (outputSeed d) (d .count);
-        narrow = λ i h. subst (λ (m : ℕ). Within m (lowMask (d .at i .width))) (sym (word-at (outputSeed d) (d .count) i h)) (seed-within i);
-      }
-
-  -- "M is the smallest family of masks": the masks of a sound design are closed above the outputs, and within every such family
-  pub masks-least : Least d (outputSeed d) (maskAt (masksOf d))
-  unfolding masksOf
-  masks-least =
-      let l = least-above d s (wordsOf (outputSeed d) (d .count)) seed-fits in
-      let same = word-at (outputSeed d) (d .count) in
+-- the masks above such a seed are closed above it, within every such family, and within the widths
+module _ (d : Design) (s : Sound d) (seed : ℕ → ℕ) (narrow : (i : ℕ) → i < d .count → Within (seed i) (allBits d i)) where
+  pub from-least : Least d seed (maskAt (masksFrom d seed))
+  from-least =
+      let l = least-above d s (wordsOf seed (d .count)) (words-fit d seed narrow) in
+      let same = word-at seed (d .count) in
       record {
         closed = record {
-          seeded = λ i h. subst (λ (m : ℕ). Within m (maskAt (masksOf d) i)) (same i h) (l .closed .seeded i h);
+          seeded = λ i h. subst (λ (m : ℕ). Within m (maskAt (masksFrom d seed) i)) (same i h) (l .closed .seeded i h);
           granted = l .closed .granted;
         };
         least = λ F c i h.
             l .least F (record { seeded = λ j k. subst (λ (m : ℕ). Within m (F j)) (sym (same j k)) (c .seeded j k); granted = c .granted }) i h;
       }
 
+  pub from-fit : Fits d (masksFrom d seed)
+  from-fit = least-narrow d s (wordsOf seed (d .count)) (words-fit d seed narrow)
+
+-- the seed of a design: its outputs
+module _ (d : Design) (s : Sound d) where
+  seed-within : (i : ℕ) → Within (outputSeed d i) (allBits d i)
+  seed-within i = go (isOutput (roleAt d i))
+    where
+      go : (b : Bool) → Within (cond b (allBits d i) 0) (allBits d i)
+      go true = within-refl (allBits d i)
+      go false = within-zero (allBits d i)
+
+  pub seed-fits : Fits d (wordsOf (outputSeed d) (d .count))
+  seed-fits = words-fit d (outputSeed d) (λ i h. seed-within i)
+
+  -- "M is the smallest family of masks": the masks of a sound design are closed above the outputs, and within every such family
+  pub masks-least : Least d (outputSeed d) (maskAt (masksOf d))
+  unfolding masksOf
+  masks-least = from-least d s (outputSeed d) (λ i h. seed-within i)
+
   pub masks-fit : Fits d (masksOf d)
   unfolding masksOf
-  masks-fit = least-narrow d s (wordsOf (outputSeed d) (d .count)) seed-fits
+  masks-fit = from-fit d s (outputSeed d) (λ i h. seed-within i)
 
 -- a list that holds the masks of an accepted file has a word for each record
 pub masks-length : (file : List ℕ) (n : ℕ) → Acceptance file n → {list : List ℕ} → list ≡ masksOf (designOf file) → length list ≡ n

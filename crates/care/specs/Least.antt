@@ -74,6 +74,9 @@ settle d (suc turns) masks =
 unfoldable pub leastAbove : Design → List ℕ → List ℕ
 leastAbove d masks = settle d (widthSum d) masks
 
--- The masks of a design.
+-- The smallest masks above a seed, and the masks of a design.
+abbrev pub masksFrom : Design → (ℕ → ℕ) → List ℕ
+masksFrom d seed = leastAbove d (wordsOf seed (d .count))
+
 unfoldable pub masksOf : Design → List ℕ
-masksOf d = leastAbove d (wordsOf (outputSeed d) (d .count))
+masksOf d = masksFrom d (outputSeed d)

@@ -7,12 +7,13 @@ use Prim.Native.Nat.{ℕ}
 use lib.Dec.{eqb}
 use borrow.Author.Tests.{eqb-true}
 use Rattle.netlist.specs.Layout.{designOf}
+use Rattle.netlist.specs.Refusals.{leaves}
 use Rattle.netlist.specs.declared.refusal.Refusal.{Refusal}
 use Rattle.netlist.specs.declared.refusal.Refusal.the-variants.{BadList}
 use Rattle.netlist.proofs.Tests.{and-first, and-second}
 use Rattle.rules.specs.declared.Checked.{Checked}
 use Rattle.rules.specs.declared.Checked.the-variants.{Accepted, Refused as refused}
-use Rattle.clock.specs.Call.{answerAfter, leaves, bothHave, startAnswer, startCall, cycleAnswer, cycleWith, cycleCall}
+use Rattle.clock.specs.Call.{answerAfter, isDone, bothHave, startAnswer, startCall, cycleAnswer, cycleWith, cycleCall}
 use Rattle.clock.specs.Values.{plainValues, plainNext, startOf}
 use Rattle.clock.specs.declared.Clocked.{Clocked}
 use Rattle.clock.specs.declared.Clocked.the-variants.{Refused}
@@ -43,19 +44,19 @@ both-fit board next n e = (eqb-true board n (and-first _ _ e), eqb-true next n (
 
 module _ (file board : List ℕ) {a : Clocked} where
   pub start-ends : startAnswer file board ≡ a
-      → (a ≡ startCall file board .answer) × (leaves a (startOf (designOf file)) board ≡ startCall file board .board)
+      → (a ≡ startCall file board .answer) × (leaves (isDone a) (startOf (designOf file)) board ≡ startCall file board .board)
   unfolding startCall
-  start-ends e = (sym e, ap (λ (c : Clocked). leaves c (startOf (designOf file)) board) (sym e))
+  start-ends e = (sym e, ap (λ (c : Clocked). leaves (isDone c) (startOf (designOf file)) board) (sym e))
 
   pub cycle-ends : (next : List ℕ) → cycleAnswer file board next ≡ a
       → (a ≡ cycleCall file board next .answer)
-      × ((leaves a (plainValues (designOf file) board) board ≡ cycleCall file board next .board)
-      × (leaves a (plainNext (designOf file) board) next ≡ cycleCall file board next .next))
+      × ((leaves (isDone a) (plainValues (designOf file) board) board ≡ cycleCall file board next .board)
+      × (leaves (isDone a) (plainNext (designOf file) board) next ≡ cycleCall file board next .next))
   unfolding cycleWith
   cycle-ends next e = (
     sym e,
     (
-      ap (λ (c : Clocked). leaves c (plainValues (designOf file) board) board) (sym e),
-      ap (λ (c : Clocked). leaves c (plainNext (designOf file) board) next) (sym e),
+      ap (λ (c : Clocked). leaves (isDone c) (plainValues (designOf file) board) board) (sym e),
+      ap (λ (c : Clocked). leaves (isDone c) (plainNext (designOf file) board) next) (sym e),
     ),
   )

@@ -2,5 +2,6 @@
 -- Assumes nothing.
 pub mod ValueLaws
 pub mod StateLaws
+pub mod InputLaws
 pub mod CallLaws
 pub mod Promises

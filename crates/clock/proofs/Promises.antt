@@ -8,13 +8,14 @@ use native.Mathlib.Omega.{arith}
 use lib.ListN.{length, set}
 use Rattle.endian.specs.Lists.{wordAt}
 use Rattle.netlist.specs.Layout.{designOf, countOf, roleAt}
+use Rattle.netlist.specs.Refusals.{leaves}
 use Rattle.netlist.specs.declared.refusal.Refusal.{Refusal}
 use Rattle.netlist.specs.declared.refusal.Refusal.the-variants.{BadList}
 use Rattle.rules.specs.Sound.{Sound}
 use Rattle.rules.specs.declared.Checked.{Checked}
 use Rattle.rules.specs.declared.Checked.the-variants.{Accepted, Refused as refused}
 use Rattle.rules.proofs.Acceptance.{accepted}
-use Rattle.clock.specs.Call.{answerAfter, isWide, leaves, startCall, cycleWith, cycleCall}
+use Rattle.clock.specs.Call.{answerAfter, isWide, isDone, startCall, cycleWith, cycleCall}
 use Rattle.clock.specs.Values.{unchanged, valueAt, valuesOf, plainValues, plainNext, nextWord, nextOf, startWord, startOf}
 use Rattle.clock.specs.declared.Clocked.{Clocked}
 use Rattle.clock.specs.declared.Clocked.the-variants.{Done, Refused}
@@ -45,7 +46,7 @@ passed (Accepted n) fit rest e = go (fit n) refl e
 module _ (file board : List ℕ) (e : startCall file board .answer ≡ Done) where
   pub start-left : startCall file board .board ≡ startOf (designOf file)
   unfolding startCall
-  start-left = ap (λ (c : Clocked). leaves c (startOf (designOf file)) board) e
+  start-left = ap (λ (c : Clocked). leaves (isDone c) (startOf (designOf file)) board) e
 
   -- "Start writes the reset states at the registers and 0 elsewhere in a board list."
   pub started : (i : ℕ) → i < countOf file → wordAt (startCall file board .board) i ≡ startWord (roleAt (designOf file) i)
@@ -61,7 +62,7 @@ module _ (file board : List ℕ) (e : startCall file board .answer ≡ Done) whe
 -- "No lent word or byte changes."
 pub start-refused : (file board : List ℕ) (r : Refusal) (i : ℕ) → startCall file board .answer ≡ Refused r i → startCall file board .board ≡ board
 unfolding startCall
-start-refused file board r i e = ap (λ (c : Clocked). leaves c (startOf (designOf file)) board) e
+start-refused file board r i e = ap (λ (c : Clocked). leaves (isDone c) (startOf (designOf file)) board) e
 
 -- ---- cycle
 
@@ -69,11 +70,11 @@ start-refused file board r i e = ap (λ (c : Clocked). leaves c (startOf (design
 module _ (change : ℕ → ℕ → ℕ) (file board next : List ℕ) (e : cycleWith change file board next .answer ≡ Done) where
   pub values-left : cycleWith change file board next .board ≡ valuesOf (designOf file) change board
   unfolding cycleWith
-  values-left = ap (λ (c : Clocked). leaves c (valuesOf (designOf file) change board) board) e
+  values-left = ap (λ (c : Clocked). leaves (isDone c) (valuesOf (designOf file) change board) board) e
 
   pub next-left : cycleWith change file board next .next ≡ nextOf (designOf file) (valuesOf (designOf file) change board)
   unfolding cycleWith
-  next-left = ap (λ (c : Clocked). leaves c (nextOf (designOf file) (valuesOf (designOf file) change board)) next) e
+  next-left = ap (λ (c : Clocked). leaves (isDone c) (nextOf (designOf file) (valuesOf (designOf file) change board)) next) e
 
   pub cycle-sound : Sound (designOf file)
   unfolding cycleWith
@@ -124,6 +125,6 @@ pub cycle-refused : (file board next : List ℕ) (r : Refusal) (i : ℕ) → cyc
     → (cycleCall file board next .board ≡ board) × (cycleCall file board next .next ≡ next)
 unfolding cycleWith
 cycle-refused file board next r i e = (
-  ap (λ (c : Clocked). leaves c (plainValues (designOf file) board) board) e,
-  ap (λ (c : Clocked). leaves c (plainNext (designOf file) board) next) e,
+  ap (λ (c : Clocked). leaves (isDone c) (plainValues (designOf file) board) board) e,
+  ap (λ (c : Clocked). leaves (isDone c) (plainNext (designOf file) board) next) e,
 )

@@ -1,9 +1,9 @@
--- The values of a cycle, the states that follow it, and the states after a start.
+-- The words that a cycle begins with, its values, the states that follow it, and the states after a start.
 -- Assumes nothing.
 use mathlib.Core.List.{List}
 use Prim.Native.Nat.{ℕ, zero, suc}
 use lib.Bits.{bitAnd}
-use lib.ListN.{set}
+use lib.ListN.{length, set}
 use Rattle.endian.specs.Lists.{wordAt, wordsOf}
 use Rattle.netlist.specs.Layout.{Design, roleAt}
 use Rattle.netlist.specs.declared.record.Role.{Role}
@@ -12,6 +12,16 @@ use Rattle.signal.specs.Results.{resultAt}
 
 -- "The board list has n words of 64 bits. Before a cycle it holds each pin's word at its input and each state at its register; other words
 -- may be anything." A next list has n words too: the board list of the cycle that follows, before new words are put at the inputs.
+
+-- "A cycle gets it with its own words put at the inputs". The word for an input is given by its record's number.
+abbrev pub putWord : Role → ℕ → ℕ → ℕ
+putWord Input word old = word
+putWord (Register a k) word old = old
+putWord Output word old = old
+putWord Gate word old = old
+
+unfoldable pub withInputs : Design → (ℕ → ℕ) → List ℕ → List ℕ
+withInputs d words board = wordsOf (λ i. putWord (roleAt d i) (words i) (wordAt board i)) (length board)
 
 -- "The value of a signal is this result with the bits cleared where its keep word has 0."
 abbrev pub valueAt : Design → List ℕ → ℕ → ℕ

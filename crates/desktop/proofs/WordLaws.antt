@@ -11,6 +11,7 @@ use borrow.Author.Tests.{eqb-true, eqb-false}
 use Rattle.endian.specs.Bytes.{wordBytes}
 use Rattle.netlist.specs.Layout.{designOf}
 use Rattle.netlist.specs.Limits.{maxCount}
+use Rattle.netlist.specs.Refusals.{leaves}
 use Rattle.rules.specs.Check.{checkOf}
 use Rattle.rules.specs.declared.Checked.{Checked}
 use Rattle.rules.specs.declared.Checked.the-variants.{Accepted, Refused as refused}
@@ -20,17 +21,17 @@ use Rattle.care.specs.declared.Tallied.{Tallied}
 use Rattle.care.specs.declared.Tallied.the-variants.{Done, Refused}
 use Rattle.care.proofs.CallLaws.{call-refused, call-bad-list, call-filled}
 use Rattle.care.proofs.LeastMasks.{masks-length}
-use Rattle.trim.specs.Call.{TrimCall, trimAnswer, leaves, trimAfter, trimCall}
+use Rattle.trim.specs.Call.{TrimCall, trimAnswer, isDone, trimAfter, trimCall}
 use Rattle.trim.specs.Trimmed.{trimmed}
 use Rattle.desktop.specs.Buffers.{fillBuffer, masksBuffer, trimBuffers}
 use Rattle.desktop.specs.Words.{Matches, Room}
 
 -- a call on words, as one on bytes that held `buffer`
 abbrev pub inBytes : MasksCall → List ℕ → MasksCall
-inBytes c buffer = record { answer = c .answer; list = leaves (c .answer) (wordBytes (c .list)) buffer }
+inBytes c buffer = record { answer = c .answer; list = leaves (isDone (c .answer)) (wordBytes (c .list)) buffer }
 
 abbrev pub trimInBytes : TrimCall → List ℕ → TrimCall
-trimInBytes c buffer = record { answer = c .answer; list = leaves (c .answer) (wordBytes (c .list)) buffer; destination = c .destination }
+trimInBytes c buffer = record { answer = c .answer; list = leaves (isDone (c .answer)) (wordBytes (c .list)) buffer; destination = c .destination }
 
 -- the front of a longer list
 pub front-matches : {n bytes : ℕ} (list : List ℕ) → n ≤ length list → Matches n bytes → Matches (length (take n list)) bytes
@@ -74,14 +75,14 @@ module _ (file buffer words : List ℕ) (s : Matches (length words) (length buff
   -- ---- trim: whatever masks comes to, and whether or not the destination fits
 
   list-left : (a : Tallied) (list : List ℕ) (fits : Bool)
-      → leaves (trimAnswer a fits) (leaves a (wordBytes list) buffer) buffer ≡ leaves (trimAnswer a fits) (wordBytes (leaves (trimAnswer a fits) list words)) buffer
+      → leaves (isDone (trimAnswer a fits)) (leaves (isDone a) (wordBytes list) buffer) buffer ≡ leaves (isDone (trimAnswer a fits)) (wordBytes (leaves (isDone (trimAnswer a fits)) list words)) buffer
   unfolding trimAnswer
   list-left (Done t) list true = refl
   list-left (Done t) list false = refl
   list-left (Refused r i) list fits = refl
 
   room-left : (a : Tallied) (list : List ℕ) (fits : Bool) → Room a (length list) (length buffer)
-      → Room (trimAnswer a fits) (length (leaves (trimAnswer a fits) list words)) (length buffer)
+      → Room (trimAnswer a fits) (length (leaves (isDone (trimAnswer a fits)) list words)) (length buffer)
   unfolding trimAnswer
   room-left (Done t) list true r = r
   room-left (Done t) list false r = tt
@@ -98,7 +99,7 @@ module _ (file buffer words : List ℕ) (s : Matches (length words) (length buff
     unfolding trimAfter
     same-trim =
         ap (λ (m : MasksCall). trimAfter m file buffer destination) (masks-match .same)
-        ∙ ap (λ (l : List ℕ). record { answer = answer; list = l; destination = leaves answer (trimmed file) destination })
+        ∙ ap (λ (l : List ℕ). record { answer = answer; list = l; destination = leaves (isDone answer) (trimmed file) destination })
         (list-left (masksCall file words .answer) (masksCall file words .list) fits)
 
     pub trim-room : Room (trimCall file words destination .answer) (length (trimCall file words destination .list)) (length buffer)

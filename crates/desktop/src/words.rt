@@ -8,7 +8,8 @@ ghost use Prim.Native.Nat.{_+_, _≤_};
 ghost use lib.ListN.{length};
 ghost use Rattle.endian.specs.Bytes.{wordBytes};
 ghost use Rattle.netlist.specs.Limits.{maxCount};
-ghost use Rattle.trim.specs.Call.{leaves};
+ghost use Rattle.netlist.specs.Refusals.{leaves};
+ghost use Rattle.trim.specs.Call.{isDone};
 ghost use Rattle.desktop.specs.Words.{Matches, Room};
 
 // Lists of so few words are worked on in an array of this length, which takes less time to clear than one for the longest list.
@@ -35,7 +36,7 @@ pub fn word_count(bytes: usize) -> usize
 // Writes the words of an accepted call as bytes.
 pub fn write_accepted(answer: Tallied, words: &[u64], buffer: &mut [u8])
     requires { ⌜ Room answer (length (now words)) (length (now buffer)) ⌝ }
-    ensures { λ r. ⌜ now (buffer .exit) ≡ leaves answer (wordBytes (now (words .entry))) (now (buffer .entry)) ⌝ }
+    ensures { λ r. ⌜ now (buffer .exit) ≡ leaves (isDone answer) (wordBytes (now (words .entry))) (now (buffer .entry)) ⌝ }
 {
     match answer {
         Tallied::Done(_) => write_words(buffer, words),

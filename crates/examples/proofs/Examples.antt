@@ -16,10 +16,10 @@ use Rattle.care.specs.Call.{callAfter, masksCall}
 use Rattle.care.specs.Called.{calledFor, isFaulty}
 use Rattle.care.specs.Least.{grant, roundTo, settle, leastAbove, masksOf}
 use Rattle.clock.specs.Call.{answerAfter, wordsAnswer, startCall, cycleWith}
-use Rattle.clock.specs.Values.{valuesTo, valuesOf, nextOf, startOf}
+use Rattle.clock.specs.Values.{withInputs, valuesTo, valuesOf, nextOf, startOf}
 use Rattle.trim.specs.Call.{trimAnswer, trimAfter}
 use Rattle.trim.specs.CallBy.{afterTrim, listAnswer, trimByCall}
-use Rattle.agreement.specs.Runs.{withInputs, callOn, runFrom, cyclesOf}
+use Rattle.agreement.specs.Runs.{callOn, runFrom, cyclesOf}
 use Rattle.examples.specs.Examples.{table, definedOf, saidOf, refusedMultipliers, swappedRun, listAnswers}
 
 pub examples : definedOf table ≡ saidOf table

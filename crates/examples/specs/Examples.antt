@@ -14,7 +14,7 @@ use Rattle.care.specs.declared.Tallied.the-variants.{Done, Refused}
 use Rattle.clock.specs.Call.{cycleCall}
 use Rattle.clock.specs.Values.{unchanged}
 use Rattle.trim.specs.CallBy.{trimByCall}
-use Rattle.agreement.specs.Runs.{start, cycle, Cycle, runOf, cyclesOf}
+use Rattle.agreement.specs.Runs.{Call, start, cycle, Cycle, runOf, ofFile, cyclesOf}
 
 -- The bytes of a record: kind, width, a, b, c, k and keep word. "All keep words are full unless stated."
 abbrev kept : ℕ → ℕ → ℕ → ℕ → ℕ → ℕ → ℕ → List ℕ
@@ -142,14 +142,14 @@ refusedMultipliers =
     ∷ []
 
 -- A run of the swapped registers, not from 01: a start, a cycle that 11 refuses, and two cycles. The values of its accepted cycles.
-abbrev valuesIn : List Cycle → List (List ℕ)
+abbrev valuesIn : List (Cycle (List ℕ)) → List (List ℕ)
 valuesIn [] = []
 valuesIn (c ∷ cs) = c .values ∷ valuesIn cs
 
 unfoldable pub swappedRun : List (List ℕ)
 swappedRun =
-    let calls = start ∷ cycle (λ i. 0) [] ∷ cycle (λ i. 0) (7 ∷ 7 ∷ []) ∷ cycle (λ i. 0) (0 ∷ 0 ∷ []) ∷ [] in
-    valuesIn (cyclesOf (runOf (λ j. unchanged) swapped (9 ∷ 9 ∷ []) calls))
+    let calls : List (Call (List ℕ)) = start ∷ cycle (λ i. 0) [] ∷ cycle (λ i. 0) (7 ∷ 7 ∷ []) ∷ cycle (λ i. 0) (0 ∷ 0 ∷ []) ∷ [] in
+    valuesIn (cyclesOf (runOf (ofFile (λ j. unchanged) swapped) (9 ∷ 9 ∷ []) calls))
 
 -- What trim_by answers for a file and a list, not from 01: the tally, or the refusal and its record.
 abbrev listSays : List ℕ → List ℕ → List ℕ

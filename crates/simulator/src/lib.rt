@@ -10,8 +10,9 @@ use netlist::refusal::Refusal;
 use rules::Checked;
 ghost use mathlib.Core.Path.{_≡_};
 ghost use Rattle.netlist.specs.Layout.{designOf};
+ghost use Rattle.netlist.specs.Refusals.{leaves};
 ghost use Rattle.rules.specs.Lent.{Lent};
-ghost use Rattle.clock.specs.Call.{bothHave, wordsAnswer, leaves, startCall, cycleCall};
+ghost use Rattle.clock.specs.Call.{bothHave, wordsAnswer, isDone, startCall, cycleCall};
 ghost use Rattle.clock.specs.Values.{plainValues, plainNext};
 
 // The lowest record whose word keeps a cycle from being run, if there is one.
@@ -33,8 +34,8 @@ fn check_words(file: &[u8], board: &[u64]) -> Clocked
 fn run(file: &[u8], board: &mut [u64], next: &mut [u64]) -> Clocked
     requires { ⌜ Lent (now file) (now board) × Lent (now file) (now next) ⌝ }
     ensures answer { λ r. ⌜ r ≡ wordsAnswer (designOf (now (file .entry))) (now (board .entry)) ⌝ }
-    ensures board { λ r. ⌜ now (board .exit) ≡ leaves r (plainValues (designOf (now (file .entry))) (now (board .entry))) (now (board .entry)) ⌝ }
-    ensures next { λ r. ⌜ now (next .exit) ≡ leaves r (plainNext (designOf (now (file .entry))) (now (board .entry))) (now (next .entry)) ⌝ }
+    ensures board { λ r. ⌜ now (board .exit) ≡ leaves (isDone r) (plainValues (designOf (now (file .entry))) (now (board .entry))) (now (board .entry)) ⌝ }
+    ensures next { λ r. ⌜ now (next .exit) ≡ leaves (isDone r) (plainNext (designOf (now (file .entry))) (now (board .entry))) (now (next .entry)) ⌝ }
 {
     match check_words(file, board) {
         Clocked::Done => {

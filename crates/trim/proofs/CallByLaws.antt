@@ -9,6 +9,7 @@ use native.Mathlib.Omega.{arith}
 use lib.ListN.{length}
 use Rattle.netlist.specs.Layout.{Design, designOf}
 use Rattle.netlist.specs.Lowest.{lowest}
+use Rattle.netlist.specs.Refusals.{leaves}
 use Rattle.netlist.specs.declared.refusal.Refusal.{Refusal}
 use Rattle.netlist.specs.declared.refusal.Refusal.the-variants.{BadList, BadDestination, BadMask}
 use Rattle.netlist.proofs.LowestLaws.{number-lowest, lowest-found, lowest-none}
@@ -24,7 +25,7 @@ use Rattle.care.specs.declared.Tallied.{Tallied}
 use Rattle.care.specs.declared.Tallied.the-variants.{Done, Refused}
 use Rattle.care.proofs.CalledLaws.{clear-fits}
 use Rattle.care.proofs.Families.{same-or-not}
-use Rattle.trim.specs.Call.{TrimCall, leaves, trimCall}
+use Rattle.trim.specs.Call.{TrimCall, isDone, trimCall}
 use Rattle.trim.specs.CallBy.{TrimByCall, listAnswer, afterTrim, trimByCall}
 use Rattle.trim.specs.Trimmed.{trimmedBy}
 use Rattle.trim.proofs.CallLaws.{refuseTrim, written, file-refused, list-refused, destination-refused}
@@ -32,7 +33,7 @@ use Rattle.trim.proofs.Promises.{writes}
 
 -- a call that gives an answer, and leaves a destination by it
 abbrev pub answering : Tallied → List ℕ → List ℕ → TrimByCall
-answering answer new old = record { answer = answer; destination = leaves answer new old }
+answering answer new old = record { answer = answer; destination = leaves (isDone answer) new old }
 
 module _ (file list destination : List ℕ) where
   after : TrimCall → TrimByCall

@@ -7,6 +7,7 @@ use Prim.Native.Nat.{ℕ}
 use lib.ListN.{length}
 use borrow.Author.Tests.{eq-eqb, ne-eqb}
 use Rattle.netlist.specs.Layout.{designOf}
+use Rattle.netlist.specs.Refusals.{leaves}
 use Rattle.netlist.specs.declared.refusal.Refusal.{Refusal}
 use Rattle.netlist.specs.declared.refusal.Refusal.the-variants.{BadList, BadDestination}
 use Rattle.rules.specs.Check.{checkOf}
@@ -15,7 +16,7 @@ use Rattle.care.specs.Call.{MasksCall, refuse, fillMasks, masksCall}
 use Rattle.care.specs.declared.Tally.{Tally}
 use Rattle.care.specs.declared.Tallied.the-variants.{Done, Refused}
 use Rattle.care.proofs.CallLaws.{call-refused, call-bad-list, call-filled}
-use Rattle.trim.specs.Call.{TrimCall, trimAnswer, leaves, trimAfter, trimCall}
+use Rattle.trim.specs.Call.{TrimCall, trimAnswer, isDone, trimAfter, trimCall}
 use Rattle.trim.specs.Trimmed.{trimmed}
 
 -- a refused call, and one that writes both lists
@@ -38,7 +39,7 @@ module _ (masking : MasksCall) (file list destination : List ℕ) where
     abbrev ends : Bool → TrimCall
     ends fits =
         let answer = trimAnswer (Done tally) fits in
-        record { answer = answer; list = leaves answer masks list; destination = leaves answer (trimmed file) destination }
+        record { answer = answer; list = leaves (isDone answer) masks list; destination = leaves (isDone answer) (trimmed file) destination }
 
     pub trim-bad-destination : (length destination ≡ length file → ⊥) → trimAfter masking file list destination ≡ refuseTrim BadDestination 0 list destination
     unfolding trimAfter trimAnswer

@@ -5,6 +5,7 @@ use mathlib.Core.List.{List}
 use Prim.Native.Nat.{ℕ, _<_}
 use lib.ListN.{length}
 use Rattle.netlist.specs.Layout.{designOf, byteAt, countOf, keepAt, recordAt}
+use Rattle.netlist.specs.Refusals.{leaves}
 use Rattle.netlist.specs.declared.refusal.Refusal.{Refusal}
 use Rattle.rules.specs.Check.{checkOf}
 use Rattle.rules.specs.Sound.{SameDesign}
@@ -15,7 +16,7 @@ use Rattle.care.specs.Least.{maskAt, masksOf}
 use Rattle.care.specs.declared.Tallied.{Tallied}
 use Rattle.care.specs.declared.Tallied.the-variants.{Refused}
 use Rattle.care.proofs.Promises.{filled}
-use Rattle.trim.specs.Call.{TrimCall, leaves, trimAfter, trimCall}
+use Rattle.trim.specs.Call.{TrimCall, isDone, trimAfter, trimCall}
 use Rattle.trim.specs.Trimmed.{trimmed, trimDesign, Outside}
 use Rattle.trim.proofs.CallLaws.{written, trim-done}
 use Rattle.trim.proofs.Trimmed.{byte-same, size-same, keep-cut, holds-cut, trim-accepted}
@@ -57,4 +58,4 @@ pub untouched : (masking : MasksCall) (file list destination : List ℕ) (r : Re
     → (trimAfter masking file list destination .list ≡ list) × (trimAfter masking file list destination .destination ≡ destination)
 unfolding trimAfter
 untouched masking file list destination r i e =
-    (ap (λ (a : Tallied). leaves a (masking .list) list) e, ap (λ (a : Tallied). leaves a (trimmed file) destination) e)
+    (ap (λ (a : Tallied). leaves (isDone a) (masking .list) list) e, ap (λ (a : Tallied). leaves (isDone a) (trimmed file) destination) e)

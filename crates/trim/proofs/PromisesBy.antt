@@ -7,6 +7,7 @@ use Prim.Native.Nat.{ℕ, _<_}
 use native.Mathlib.Omega.{arith}
 use lib.ListN.{length}
 use Rattle.netlist.specs.Layout.{Design, designOf, byteAt, countOf, keepAt, recordAt}
+use Rattle.netlist.specs.Refusals.{leaves}
 use Rattle.netlist.specs.declared.refusal.Refusal.{Refusal}
 use Rattle.netlist.specs.declared.refusal.Refusal.the-variants.{BadMask}
 use Rattle.netlist.proofs.LowestLaws.{Clear, Lowest, lowest-cases, lowest-number}
@@ -23,7 +24,7 @@ use Rattle.care.specs.declared.Tallied.{Tallied}
 use Rattle.care.specs.declared.Tallied.the-variants.{Done, Refused}
 use Rattle.care.proofs.CalledLaws.{closed-clear, clear-fits, clear-closed}
 use Rattle.care.proofs.LeastMasks.{masks-least, masks-fit, masks-length}
-use Rattle.trim.specs.Call.{TrimCall, leaves, trimCall}
+use Rattle.trim.specs.Call.{TrimCall, isDone, trimCall}
 use Rattle.trim.specs.CallBy.{TrimByCall, listAnswer, afterTrim, trimByCall}
 use Rattle.trim.specs.Trimmed.{trimmedBy, trimDesign, Outside}
 use Rattle.trim.proofs.CallByLaws.{answering, by-list, by-ends, list-done}
@@ -180,4 +181,4 @@ module _ (file list destination : List ℕ) (r : Refusal) (i : ℕ) where
   -- "No lent word or byte changes."
   pub untouched-by : refusing .answer ≡ Refused r i → refusing .destination ≡ destination
   unfolding trimByCall
-  untouched-by e = ap (λ (t : Tallied). leaves t (trimmedBy file list) destination) e
+  untouched-by e = ap (λ (t : Tallied). leaves (isDone t) (trimmedBy file list) destination) e

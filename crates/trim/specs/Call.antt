@@ -1,10 +1,11 @@
 -- The operation `trim`: its answer and each lent list afterwards, refused calls included.
 -- Assumes nothing.
-use mathlib.Core.Bool.{Bool, cond}
+use mathlib.Core.Bool.{Bool, true, false, cond}
 use mathlib.Core.List.{List}
 use Prim.Native.Nat.{ℕ}
 use lib.Dec.{eqb}
 use lib.ListN.{length}
+use Rattle.netlist.specs.Refusals.{leaves}
 use Rattle.netlist.specs.declared.refusal.Refusal.the-variants.{BadDestination}
 use Rattle.care.specs.Call.{MasksCall, masksCall}
 use Rattle.care.specs.declared.Tallied.{Tallied}
@@ -22,16 +23,16 @@ unfoldable pub trimAnswer : Tallied → Bool → Tallied
 trimAnswer (Done tally) fits = cond fits (Done tally) (Refused BadDestination 0)
 trimAnswer (Refused r i) fits = Refused r i
 
--- What a call leaves in a list lent to it: what it writes, or what was there. "No lent word or byte changes."
-abbrev pub leaves : Tallied → List ℕ → List ℕ → List ℕ
-leaves (Done tally) new old = new
-leaves (Refused r i) new old = old
+-- Whether a call is done: only then does it write.
+abbrev pub isDone : Tallied → Bool
+isDone (Done tally) = true
+isDone (Refused r i) = false
 
 -- What a call of trim comes to, where `masking` is what a call of masks with the same list comes to.
 unfoldable pub trimAfter : MasksCall → List ℕ → List ℕ → List ℕ → TrimCall
 trimAfter masking file list destination =
     let answer = trimAnswer (masking .answer) (eqb (length destination) (length file)) in
-    record { answer = answer; list = leaves answer (masking .list) list; destination = leaves answer (trimmed file) destination }
+    record { answer = answer; list = leaves (isDone answer) (masking .list) list; destination = leaves (isDone answer) (trimmed file) destination }
 
 -- "Trim works out the masks, fills a lent mask list with them and writes a file of equal length to a destination."
 abbrev pub trimCall : List ℕ → List ℕ → List ℕ → TrimCall

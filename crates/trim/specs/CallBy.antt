@@ -4,13 +4,14 @@ use mathlib.Core.List.{List}
 use Prim.Native.Nat.{ℕ}
 use Rattle.netlist.specs.Layout.{Design, designOf}
 use Rattle.netlist.specs.Lowest.{lowest}
+use Rattle.netlist.specs.Refusals.{leaves}
 use Rattle.netlist.specs.declared.refusal.Refusal.the-variants.{BadMask}
 use Rattle.care.specs.Call.{tallyOf}
 use Rattle.care.specs.Called.{isFaulty}
 use Rattle.care.specs.Least.{outputSeed}
 use Rattle.care.specs.declared.Tallied.{Tallied}
 use Rattle.care.specs.declared.Tallied.the-variants.{Done, Refused}
-use Rattle.trim.specs.Call.{leaves, trimCall}
+use Rattle.trim.specs.Call.{isDone, trimCall}
 use Rattle.trim.specs.Trimmed.{trimmedBy}
 
 -- What a call answers, and the destination that it leaves. The list is only read.
@@ -36,4 +37,4 @@ trimByAnswer file list destination = afterTrim (trimCall file list destination .
 unfoldable pub trimByCall : List ℕ → List ℕ → List ℕ → TrimByCall
 trimByCall file list destination =
     let answer = trimByAnswer file list destination in
-    record { answer = answer; destination = leaves answer (trimmedBy file list) destination }
+    record { answer = answer; destination = leaves (isDone answer) (trimmedBy file list) destination }

@@ -11,8 +11,9 @@ use rules::Checked;
 ghost use mathlib.Core.Path.{_≡_};
 ghost use lib.ListN.{length};
 ghost use Rattle.netlist.specs.Layout.{designOf};
+ghost use Rattle.netlist.specs.Refusals.{leaves};
 ghost use Rattle.rules.specs.Lent.{Lent};
-ghost use Rattle.trim.specs.Call.{leaves};
+ghost use Rattle.trim.specs.Call.{isDone};
 ghost use Rattle.trim.specs.CallBy.{listAnswer, trimByCall};
 ghost use Rattle.trim.specs.Trimmed.{trimmedBy};
 
@@ -32,7 +33,7 @@ fn judge(file: &[u8], list: &[u64]) -> Tallied
 fn write_by(file: &[u8], list: &[u64], destination: &mut [u8]) -> Tallied
     requires { ⌜ Lent (now file) (now list) × (length (now destination) ≡ length (now file)) ⌝ }
     ensures answer { λ r. ⌜ r ≡ listAnswer (designOf (now (file .entry))) (now (list .entry)) ⌝ }
-    ensures destination { λ r. ⌜ now (destination .exit) ≡ leaves r (trimmedBy (now (file .entry)) (now (list .entry))) (now (destination .entry)) ⌝ }
+    ensures destination { λ r. ⌜ now (destination .exit) ≡ leaves (isDone r) (trimmedBy (now (file .entry)) (now (list .entry))) (now (destination .entry)) ⌝ }
 {
     match judge(file, list) {
         Tallied::Done(tally) => {

@@ -6,9 +6,10 @@ use Prim.Native.Nat.{ℕ}
 use borrow.Author.Needs.{needs}
 use denote.Ref.{now}
 use Rattle.endian.specs.Bytes.{wordBytes}
+use Rattle.netlist.specs.Refusals.{leaves}
 use Rattle.care.specs.Call.{MasksCall}
 use Rattle.care.specs.declared.Tallied.{Tallied}
-use Rattle.trim.specs.Call.{leaves}
+use Rattle.trim.specs.Call.{isDone}
 use Rattle.answer.specs.Answer.{talliedAnswer}
 use Rattle.answer.specs.Fits.{TalliedFits}
 use Rattle.answer.proofs.Fitting.{masks-fits}
@@ -41,7 +42,7 @@ returns c = let s = c .before .before .before .before .before .before .before .b
     let same = masks-match (now (s .args .file)) buffer (now (s .args .words)) (s .pre) .same in (
       c .of-tallied .ensures ∙ ap talliedAnswer (masks .ensures .0 ∙ sym (ap (λ (m : MasksCall). m .answer) same)),
       c .before .before .before .write-accepted .ensures
-          ∙ ap₂ (λ (a : Tallied) (l : List ℕ). leaves a (wordBytes l) buffer) (masks .ensures .0) (masks .ensures .1)
+          ∙ ap₂ (λ (a : Tallied) (l : List ℕ). leaves (isDone a) (wordBytes l) buffer) (masks .ensures .0) (masks .ensures .1)
           ∙ sym (ap (λ (m : MasksCall). m .list) same),
     )
 

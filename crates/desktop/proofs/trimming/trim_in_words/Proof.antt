@@ -6,8 +6,9 @@ use Prim.Native.Nat.{ℕ}
 use borrow.Author.Needs.{needs}
 use denote.Ref.{now}
 use Rattle.endian.specs.Bytes.{wordBytes}
+use Rattle.netlist.specs.Refusals.{leaves}
 use Rattle.care.specs.declared.Tallied.{Tallied}
-use Rattle.trim.specs.Call.{TrimCall, leaves}
+use Rattle.trim.specs.Call.{TrimCall, isDone}
 use Rattle.answer.specs.Answer.{talliedAnswer}
 use Rattle.answer.specs.Fits.{TalliedFits}
 use Rattle.answer.proofs.Fitting.{trim-fits}
@@ -44,7 +45,7 @@ returns c = let s = c .before .before .before .before .before .before .before .b
       c .of-tallied .ensures ∙ ap talliedAnswer (trim .ensures .0 ∙ sym (ap (λ (t : TrimCall). t .answer) same)),
       (
         c .before .before .before .write-accepted .ensures
-            ∙ ap₂ (λ (a : Tallied) (l : List ℕ). leaves a (wordBytes l) masks) (trim .ensures .0) (trim .ensures .1 .0)
+            ∙ ap₂ (λ (a : Tallied) (l : List ℕ). leaves (isDone a) (wordBytes l) masks) (trim .ensures .0) (trim .ensures .1 .0)
             ∙ sym (ap (λ (t : TrimCall). t .list) same),
         trim .ensures .1 .1 ∙ sym (ap (λ (t : TrimCall). t .destination) same),
       ),

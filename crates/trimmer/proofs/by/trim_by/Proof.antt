@@ -4,13 +4,14 @@ use mathlib.Core.Path.{sym, ap, _∙_}
 use native.Mathlib.Omega.{arith}
 use borrow.Author.Needs.{needs}
 use denote.Ref.{now}
+use Rattle.netlist.specs.Refusals.{leaves}
 use Rattle.rules.proofs.Acceptance.{accepted, lent}
 use Rattle.care.specs.declared.Tallied.{Tallied}
 use Rattle.trim.proofs.Promises.{writes}
 use Rattle.trim.proofs.CallByLaws.{by-refused, by-list, two-of}
 use Rattle.trim.proofs.CallLaws.{file-refused, list-refused, destination-refused}
 use Rattle.trim.specs.Trimmed.{trimmedBy}
-use Rattle.trim.specs.Call.{leaves}
+use Rattle.trim.specs.Call.{isDone}
 use Rattle.trimmer.proofs.by.trim_by.Statement.{statement}
 use Rattle.trimmer.proofs.by.trim_by.Tie as tie
 
@@ -61,7 +62,7 @@ returns-3 c = let a = c .before .before .before .before .before .before .before 
     let checked = sym (check .ensures) ∙ c .before .before .before .before .before .before .before .n .given .1 in
     let b = two-of _ _ (by-list file list destination
     (writes file list destination _ checked (let t = if1 .left in omega arith) (let t = if2 .left in omega arith))) in
-    (written .0 ∙ b .0, written .1 ∙ ap (λ (t : Tallied). leaves t (trimmedBy file list) destination) (written .0) ∙ b .1)
+    (written .0 ∙ b .0, written .1 ∙ ap (λ (t : Tallied). leaves (isDone t) (trimmedBy file list) destination) (written .0) ∙ b .1)
 
 returns-4 : tie.Need-returns-4
 returns-4 c = let a = c .before .before .before .before .before .before .before .args in
