@@ -13,7 +13,7 @@ use Rattle.signal.specs.Results.{resultAt}
 -- "The board list has n words of 64 bits. Before a cycle it holds each pin's word at its input and each state at its register; other words
 -- may be anything." A next list has n words too: the board list of the cycle that follows, before new words are put at the inputs.
 
--- "A cycle gets it with its own words put at the inputs". The word for an input is given by its record's number.
+-- "A cycle gets it with its own words put at the inputs".
 abbrev pub putWord : Role → ℕ → ℕ → ℕ
 putWord Input word old = word
 putWord (Register a k) word old = old
