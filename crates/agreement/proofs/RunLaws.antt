@@ -1,12 +1,14 @@
--- What a call does to a run: an accepted one is a step and moves the run on, and a refused one does nothing.
+-- What a call does to a run: an accepted one is a step and moves the run on, and a refused one does nothing. And how many cycles a run has.
 -- Assumes nothing.
-use mathlib.Core.Path.{_≡_, ap}
-use mathlib.Core.List.{[], _∷_}
-use Prim.Native.Nat.{ℕ}
+use mathlib.Core.Path.{_≡_, refl, ap}
+use mathlib.Core.List.{List, [], _∷_}
+use Prim.Native.Nat.{ℕ, suc}
+use native.Mathlib.Omega.{arith}
+use lib.ListN.{length, drop}
 use Rattle.netlist.specs.declared.refusal.Refusal.{Refusal}
 use Rattle.clock.specs.declared.Clocked.{Clocked}
 use Rattle.clock.specs.declared.Clocked.the-variants.{Done, Refused}
-use Rattle.agreement.specs.Runs.{Machine, start, cycle, started, cycled, Outcome, outcome, callOn}
+use Rattle.agreement.specs.Runs.{Machine, start, cycle, Step, started, cycled, Outcome, outcome, callOn, kindsOf, cyclesOf}
 
 module _ {L : Type 0} (machine : Machine L) (j : ℕ) (board : L) where
   -- a start, by its answer
@@ -45,3 +47,15 @@ module _ {L : Type 0} (machine : Machine L) (j : ℕ) (board : L) where
   pub cycle-stays : (words : ℕ → ℕ) (next : L) (r : Refusal) (i : ℕ) → machine .cycle j words board next .answer ≡ Refused r i
       → callOn machine j board (cycle words next) ≡ stays
   cycle-stays words next r i e = cycle-comes-to words next e
+
+-- two runs whose accepted calls are of the same kinds have equally many accepted cycles
+pub as-many : {L L′ : Type 0} (first : List (Step L)) (second : List (Step L′)) → kindsOf first ≡ kindsOf second
+    → length (cyclesOf first) ≡ length (cyclesOf second)
+unfolding kindsOf cyclesOf
+as-many [] [] e = refl
+as-many [] (step ∷ second) e = absurd (let q = ap length e in omega arith)
+as-many (step ∷ first) [] e = absurd (let q = ap length e in omega arith)
+as-many (started ∷ first) (started ∷ second) e = as-many first second (ap (drop 1) e)
+as-many (started ∷ first) (cycled c ∷ second) e = absurd (let z : _≡_ {A = ℕ} 0 1 = cc in omega arith)
+as-many (cycled c ∷ first) (started ∷ second) e = absurd (let z : _≡_ {A = ℕ} 0 1 = cc in omega arith)
+as-many (cycled c ∷ first) (cycled c′ ∷ second) e = ap suc (as-many first second (ap (drop 1) e))
