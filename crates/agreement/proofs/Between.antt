@@ -31,8 +31,7 @@ pub record Tied (d : Design) (masks board board′ : List ℕ) : Type 0 where
   pub each : (i a k : ℕ) → i < d .count → roleAt d i ≡ Register a k → Agree (demandOf (d .at i) (maskAt masks i)) (wordAt board i) (wordAt board′ i)
 
 -- "equal cared bits at each register" are more than it takes
-pub tied-first : (d : Design) (masks board board′ : List ℕ)
-    → AtRegisters d masks board board′ → Tied d masks board board′
+pub tied-first : (d : Design) (masks board board′ : List ℕ) → AtRegisters d masks board board′ → Tied d masks board board′
 tied-first d masks board board′ registers =
     record { each = λ i a k h e. agree-within (meet-left (maskAt masks i) (d .at i .keep)) (registers i a k h e) }
 

@@ -24,11 +24,11 @@ pub record InStep {L L′ : Type 0} (machine : Machine L) (machine′ : Machine 
 
 module _ {L L′ : Type 0} {machine : Machine L} {machine′ : Machine L′} {Tied : L → L′ → Type 0} {Alike : (ℕ → ℕ) → (ℕ → ℕ) → Type 0}
     {Close : L → L′ → Type 0} (s : InStep machine machine′ Tied Alike Close) where
-  abbrev AllAlike : List (Step L) → List (Step L′) → Type 0
-  AllAlike first second = EachCycle (λ c c′. Alike (c .words) (c′ .words)) first second
+  abbrev AlikeCycles : List (Step L) → List (Step L′) → Type 0
+  AlikeCycles first second = EachCycle (λ c c′. Alike (c .words) (c′ .words)) first second
 
-  abbrev AllClose : List (Step L) → List (Step L′) → Type 0
-  AllClose first second = EachCycle (λ c c′. Close (c .values) (c′ .values)) first second
+  abbrev CloseCycles : List (Step L) → List (Step L′) → Type 0
+  CloseCycles first second = EachCycle (λ c c′. Close (c .values) (c′ .values)) first second
 
   -- two links that are cycles
   cycles-on : {board : L} {board′ : L′} {c : Cycle L} {c′ : Cycle L′} (x : CycledFrom machine board c) (y : CycledFrom machine′ board′ c′)
@@ -41,7 +41,7 @@ module _ {L L′ : Type 0} {machine : Machine L} {machine′ : Machine L′} {Ti
 
   -- the cycles of this link, or of a later one
   or-later : (c : Cycle L) (c′ : Cycle L′) (first : List (Step L)) (second : List (Step L′)) → Close (c .values) (c′ .values)
-      → AllClose first second → AllClose (cycled c ∷ first) (cycled c′ ∷ second)
+      → CloseCycles first second → CloseCycles (cycled c ∷ first) (cycled c′ ∷ second)
   unfolding cyclesOf
   or-later c c′ first second here later zero d d′ e e′ =
       rw (sym (Option·some-injective c d e), sym (Option·some-injective c′ d′ e′)) here
@@ -49,7 +49,7 @@ module _ {L L′ : Type 0} {machine : Machine L} {machine′ : Machine L′} {Ti
 
   -- the two chains, link by link
   pub chains-close : (first : List (Step L)) (second : List (Step L′)) (board : L) (board′ : L′) → Chain machine board first → Chain machine′ board′ second
-      → kindsOf first ≡ kindsOf second → Tied board board′ → AllAlike first second → AllClose first second
+      → kindsOf first ≡ kindsOf second → Tied board board′ → AlikeCycles first second → CloseCycles first second
   unfolding kindsOf cyclesOf
   chains-close [] second board board′ x y kinds tied alike = λ j c c′ e e′. absurd (let z : _≡_ {A = ℕ} 0 1 = cc in omega arith)
   chains-close (step ∷ first) [] board board′ x y kinds tied alike = absurd (let q = ap length kinds in omega arith)
@@ -67,6 +67,6 @@ module _ {L L′ : Type 0} {machine : Machine L} {machine′ : Machine L′} {Ti
   pub runs-close : (board : L) (board′ : L′) (calls : List (Call L)) (calls′ : List (Call L′)) → Tied board board′
       → let first = runOf machine board calls in
       let second = runOf machine′ board′ calls′ in
-      kindsOf first ≡ kindsOf second → AllAlike first second → AllClose first second
+      kindsOf first ≡ kindsOf second → AlikeCycles first second → CloseCycles first second
   runs-close board board′ calls calls′ tied kinds alike =
       chains-close _ _ board board′ (chain-of machine 0 board calls) (chain-of machine′ 0 board′ calls′) kinds tied alike

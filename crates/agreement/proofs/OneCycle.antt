@@ -34,6 +34,7 @@ pub record Close (d : Design) (M : ℕ → ℕ) (values values′ : List ℕ) (i
   pub second : wordAt values′ i < 2 ^ d .at i .width
   pub fixed : Fixed (d .at i) (wordAt values i)
 
+-- The same of every signal.
 abbrev pub AllClose : Design → (ℕ → ℕ) → List ℕ → List ℕ → Type 0
 AllClose d M values values′ = (i : ℕ) → i < d .count → Close d M values values′ i
 

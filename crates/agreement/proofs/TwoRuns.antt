@@ -33,7 +33,7 @@ use Rattle.agreement.proofs.OneCycle.{AllClose, cycle-close}
 use Rattle.agreement.proofs.ScrambleLaws.{Gentle, gentle}
 
 module _ (file file′ masks : List ℕ) (sound : Sound (designOf file)) (seed : ℕ → ℕ) (closed : Closed (designOf file) seed (maskAt masks))
-    (f : Follows (designOf file) (designOf file′) (maskAt masks)) (change : ℕ → ℕ → ℕ → ℕ) (gentle : (j : ℕ) → Gentle (designOf file) masks (change j)) where
+    (f : Follows (designOf file) (designOf file′) (maskAt masks)) (change : ℕ → ℕ → ℕ → ℕ) (g : (j : ℕ) → Gentle (designOf file) masks (change j)) where
   abbrev d : Design
   d = designOf file
 
@@ -63,7 +63,7 @@ module _ (file file′ masks : List ℕ) (sound : Sound (designOf file)) (seed :
         let size′ = board-length (change j) file′ put′ next′ s′ in
         let inner = length-inputs d words board in
         let inner′ = length-inputs e words′ board′ in
-        cycle-close d e sound (cycle-sound (change j) file′ put′ next′ s′) masks seed closed f (change j) (gentle j) put put′ size size′
+        cycle-close d e sound (cycle-sound (change j) file′ put′ next′ s′) masks seed closed f (change j) (g j) put put′ size size′
         (held-agree d e masks f words words′ board board′ (sym inner ∙ size) (sym inner′ ∙ size′) tied inputs) i h
 
     close-and-tied : let call = cycleWith unchanged file put next in

@@ -75,7 +75,8 @@ module _ (file buffer words : List ℕ) (s : Matches (length words) (length buff
   -- ---- trim: whatever masks comes to, and whether or not the destination fits
 
   list-left : (a : Tallied) (list : List ℕ) (fits : Bool)
-      → leaves (isDone (trimAnswer a fits)) (leaves (isDone a) (wordBytes list) buffer) buffer ≡ leaves (isDone (trimAnswer a fits)) (wordBytes (leaves (isDone (trimAnswer a fits)) list words)) buffer
+      → let done = isDone (trimAnswer a fits) in
+      leaves done (leaves (isDone a) (wordBytes list) buffer) buffer ≡ leaves done (wordBytes (leaves done list words)) buffer
   unfolding trimAnswer
   list-left (Done t) list true = refl
   list-left (Done t) list false = refl
