@@ -1,9 +1,10 @@
--- Little-endian numbers: the number in two runs of bytes from the numbers in each, and the bytes of a number.
+-- Little-endian numbers: the number in two runs of bytes from the numbers in each, the bytes of a number, and those of a number made of two.
 -- Assumes nothing.
 use mathlib.Core.Path.{_≡_, refl, sym, ap, ap₂, subst, _∙_}
 use mathlib.Core.List.{List, _∷_, _++_}
 use Prim.Native.Nat.{ℕ, zero, suc, _+_, _*_, _/_, _%_, _^_, _<_}
 use native.Mathlib.Nat.{add-zero, add-suc, suc-add, zero-add, one-mul, add-assoc, mul-add, mul-assoc, pow-suc, pow-succ', div-lt-iff-lt-mul, mod-add-div, mod-lt}
+use native.Mathlib.Omega.{arith}
 use lib.Arith.{lt-one}
 use lib.Dec.{lit<}
 use lib.ListN.{getD}
@@ -42,3 +43,17 @@ pub bytes-low : (size v i : ℕ) → getD (bytes size v) i 0 < 256
 bytes-low zero v i = lit< tt
 bytes-low (suc size) v zero = mod-lt v (lit< tt)
 bytes-low (suc size) v (suc i) = bytes-low size (v / 256) i
+
+-- the bytes of a number whose low m bytes are those of x, and whose others are those of y
+pub bytes-parts : (m n x y : ℕ) → x < 256 ^ m → bytes (m + n) (x + 256 ^ m * y) ≡ bytes m x ++ bytes n y
+bytes-parts zero n x y h =
+    ap₂ bytes (zero-add n) (ap (λ (z : ℕ). z + 1 * y) (lt-one h) ∙ zero-add (1 * y) ∙ one-mul y)
+bytes-parts (suc m) n x y h =
+    ap₂ bytes (suc-add m n) (ap (λ (z : ℕ). x + z * y) (pow-succ' 256 m) ∙ ap (λ (z : ℕ). x + z) (mul-assoc 256 (256 ^ m) y))
+    ∙ ap₂ _∷_ first (ap (bytes (m + n)) rest ∙ bytes-parts m n (x / 256) y (div-lt-iff-lt-mul (lit< tt) .1 (subst (λ (z : ℕ). x < z) (pow-suc 256 m) h)))
+  where
+    first : (x + 256 * (256 ^ m * y)) % 256 ≡ x % 256
+    first = omega arith
+
+    rest : (x + 256 * (256 ^ m * y)) / 256 ≡ x / 256 + 256 ^ m * y
+    rest = omega arith

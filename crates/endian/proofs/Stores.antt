@@ -27,6 +27,12 @@ pub stored-outside : (vs l : List ℕ) (i j : ℕ) → (j < i) ⊎ (i + length v
 stored-outside vs l i j (inl h) = stored-before vs l i j h
 stored-outside vs l i j (inr h) = stored-after vs l i j h
 
+-- ---- bytes after bytes
+
+pub stored-more : (vs ws l : List ℕ) (i : ℕ) → sets (sets l i vs) (i + length vs) ws ≡ sets l i (vs ++ ws)
+stored-more [] ws l i = ap (λ (j : ℕ). sets l j ws) (omega arith)
+stored-more (v ∷ vs) ws l i = ap (λ (j : ℕ). sets (sets (set l i v) (suc i) vs) j ws) (omega arith) ∙ stored-more vs ws (set l i v) (suc i)
+
 -- ---- numbers
 
 -- a number depends on its own bytes alone

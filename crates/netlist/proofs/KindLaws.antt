@@ -1,16 +1,17 @@
 -- Laws of the table of kinds: numbers and kinds answer to each other, 1 alone is a constant's number, 12 a multiplier's, 2 a register's and 3 an output's,
--- which kinds have two operands, which are shifts and which are gates, unused fields are 0, and k is a word. Assumes nothing.
+-- which kinds have two operands, which are shifts and which are gates, unused fields are 0, k is a word, and what new numbers for the operands leave
+-- as it was. Assumes nothing.
 use mathlib.Core.Path.{_≡_, refl, sym, ap, _∙_}
 use mathlib.Core.Bool.{Bool, true, false, cond, false≢true}
-use mathlib.Core.List.{List, [], _∷_, _++_}
+use mathlib.Core.List.{List, [], _∷_, _++_, map}
 use Prim.Native.Nat.{ℕ, zero, suc, _+_, _-_, _^_, _≤_, _<_, compare·suc-suc}
 use native.Mathlib.Omega.{arith}
 use borrow.Author.Tests.{eqb-true, ne-eqb, ltb-true, ltb-false}
 use lib.Dec.{eqb, ltb, isEq, lit<}
-use lib.ListN.{getD, drop, replicate, List·getD-eq-default, List·getD-map}
+use lib.ListN.{getD, take, drop, replicate, List·getD-eq-default, List·getD-map}
 use Rattle.endian.specs.Lists.{wordsOf, wordsFrom}
 use Rattle.endian.proofs.ListLaws.{word-at}
-use Rattle.netlist.specs.Kinds.{kinds, kindOf, codeOf, isConstant, isMultiplier, shiftRange, usesOf, widthRules, isOutput, isRegister, operandsOf, one, two}
+use Rattle.netlist.specs.Kinds.{kinds, kindOf, codeOf, isConstant, isMultiplier, shiftRange, usesOf, widthRules, isOutput, isRegister, operandsOf, renumbered, one, two}
 use Rattle.netlist.specs.Limits.{kindCount}
 use Rattle.netlist.specs.Rules.{Rule, equal, below, AllHold, testAll}
 use Rattle.netlist.specs.declared.record.Fields.{Fields}
@@ -18,6 +19,8 @@ use Rattle.netlist.specs.declared.record.Kind.{Kind}
 use Rattle.netlist.specs.declared.record.Kind.the-variants.{Input, Constant, Register, Output, Extract, Concat, And, Or, Xor, Mux, Add, Sub, Mul, Equal, Below, LeftShift, RightShift, ArithmeticRightShift, SignedBelow}
 use Rattle.netlist.specs.declared.record.Role.the-variants.{Input as input, Register as register, Gate as gate}
 use Rattle.netlist.specs.declared.record.Uses.{Uses}
+use Rattle.netlist.proofs.OperandLists.{Each}
+use Rattle.netlist.proofs.RoleLaws.{newRole}
 use Rattle.netlist.proofs.Tests.{tests-hold}
 
 -- no kind has a number above 18
@@ -281,3 +284,77 @@ k-word (LeftShift a k) w wa wb wc h g l = omega arith
 k-word (RightShift a k) w wa wb wc h g l = omega arith
 k-word (ArithmeticRightShift a k) w wa wb wc h g l = omega arith
 k-word (SignedBelow a b) w wa wb wc h g l = lit< tt
+
+-- #107: a kind with new numbers has the number that it had, and what it uses is what it used, with new numbers for its operands
+pub renumbered-code : (new : ℕ → ℕ) (kind : Kind) → codeOf (renumbered new kind) ≡ codeOf kind
+unfolding renumbered
+renumbered-code new kind = code-back (codeOf kind) _ (code-low kind)
+
+abbrev pub newUses : (ℕ → ℕ) → Uses → Uses
+newUses new u =
+    let js = map new (operandsOf u) in
+    record { count = u .count; a = getD js 0 0; b = getD js 1 0; c = getD js 2 0; k = u .k; word = u .word; role = newRole new (u .role) }
+
+-- the operands are the old ones with new numbers
+pub new-operands : (new : ℕ → ℕ) (u : Uses) → operandsOf (newUses new u) ≡ map new (operandsOf u)
+unfolding operandsOf
+new-operands new u = go (u .count)
+  where
+    first : ℕ → List ℕ
+    first n = take n (u .a ∷ u .b ∷ u .c ∷ [])
+
+    go : (n : ℕ) → take n (getD (map new (first n)) 0 0 ∷ getD (map new (first n)) 1 0 ∷ getD (map new (first n)) 2 0 ∷ []) ≡ map new (first n)
+    go zero = refl
+    go (suc zero) = refl
+    go (suc (suc zero)) = refl
+    go (suc (suc (suc zero))) = refl
+    go (suc (suc (suc (suc n)))) = refl
+
+pub renumbered-uses : (new : ℕ → ℕ) (kind : Kind) → usesOf (renumbered new kind) ≡ newUses new (usesOf kind)
+unfolding renumbered kindOf operandsOf
+renumbered-uses new Input = refl
+renumbered-uses new (Constant k) = refl
+renumbered-uses new (Register a k) = refl
+renumbered-uses new (Output a) = refl
+renumbered-uses new (Extract a k) = refl
+renumbered-uses new (Concat a b) = refl
+renumbered-uses new (And a b) = refl
+renumbered-uses new (Or a b) = refl
+renumbered-uses new (Xor a b) = refl
+renumbered-uses new (Mux a b c) = refl
+renumbered-uses new (Add a b) = refl
+renumbered-uses new (Sub a b) = refl
+renumbered-uses new (Mul a b) = refl
+renumbered-uses new (Equal a b) = refl
+renumbered-uses new (Below a b) = refl
+renumbered-uses new (LeftShift a k) = refl
+renumbered-uses new (RightShift a k) = refl
+renumbered-uses new (ArithmeticRightShift a k) = refl
+renumbered-uses new (SignedBelow a b) = refl
+
+-- its width rule is what it was, where each operand that it uses has the width that it had
+module _ (new widths widths′ : ℕ → ℕ) (w : ℕ) where
+  pub widths-renumbered : (kind : Kind) → Each (λ j. widths′ (new j) ≡ widths j) (operandsOf (usesOf kind))
+      → let u = usesOf kind in
+      let u′ = usesOf (renumbered new kind) in
+      widthRules (renumbered new kind) w (widths′ (u′ .a)) (widths′ (u′ .b)) (widths′ (u′ .c)) ≡ widthRules kind w (widths (u .a)) (widths (u .b)) (widths (u .c))
+  unfolding renumbered kindOf operandsOf
+  widths-renumbered Input same = refl
+  widths-renumbered (Constant k) same = refl
+  widths-renumbered (Register a k) same = rw (same .0)
+  widths-renumbered (Output a) same = rw (same .0)
+  widths-renumbered (Extract a k) same = rw (same .0)
+  widths-renumbered (Concat a b) same = rw (same .0, same .1 .0)
+  widths-renumbered (And a b) same = rw (same .0, same .1 .0)
+  widths-renumbered (Or a b) same = rw (same .0, same .1 .0)
+  widths-renumbered (Xor a b) same = rw (same .0, same .1 .0)
+  widths-renumbered (Mux a b c) same = rw (same .0, same .1 .0, same .1 .1 .0)
+  widths-renumbered (Add a b) same = rw (same .0, same .1 .0)
+  widths-renumbered (Sub a b) same = rw (same .0, same .1 .0)
+  widths-renumbered (Mul a b) same = rw (same .0, same .1 .0)
+  widths-renumbered (Equal a b) same = rw (same .0, same .1 .0)
+  widths-renumbered (Below a b) same = rw (same .0, same .1 .0)
+  widths-renumbered (LeftShift a k) same = rw (same .0)
+  widths-renumbered (RightShift a k) same = rw (same .0)
+  widths-renumbered (ArithmeticRightShift a k) same = rw (same .0)
+  widths-renumbered (SignedBelow a b) same = rw (same .0, same .1 .0)

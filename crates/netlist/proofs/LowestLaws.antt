@@ -8,7 +8,7 @@ use native.Mathlib.Nat.{eq-or-lt-of-le, not-suc-le-zero}
 use native.Mathlib.Omega.{arith}
 use Rattle.netlist.specs.Lowest.{lowestFrom, lowest}
 
-not-both : {b : Bool} {P : Type 0} → b ≡ true → b ≡ false → P
+pub not-both : {b : Bool} {P : Type 0} → b ≡ true → b ≡ false → P
 not-both e f = absurd (let z : _≡_ {A = ℕ} 0 1 = cc in omega arith)
 
 -- a test picks no number below n

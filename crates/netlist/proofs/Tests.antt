@@ -11,6 +11,11 @@ use lib.Dec.{eqb, leb, ltb}
 use lib.Pow.{pow-pos}
 use Rattle.netlist.specs.Rules.{Rule, equal, below, atMost, isNot, Holds, AllHold, test, testAll}
 
+-- what follows from a test either way
+pub by-test : {P : Type 0} (b : Bool) → (b ≡ true → P) → (b ≡ false → P) → P
+by-test true picks passes = picks refl
+by-test false picks passes = passes refl
+
 -- two tests that say the same give the same
 same-test : (a b : Bool) → (a ≡ true → b ≡ true) → (b ≡ true → a ≡ true) → a ≡ b
 same-test true b f g = sym (f refl)

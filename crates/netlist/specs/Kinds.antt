@@ -1,6 +1,6 @@
 -- All that is said of a kind: its number, the fields it uses, its role in a design, its width rule.
 -- Assumes nothing.
-use mathlib.Core.Bool.{Bool, true, false}
+use mathlib.Core.Bool.{Bool, true, false, _||_}
 use mathlib.Core.List.{List, [], _∷_}
 use Prim.Native.Nat.{ℕ, _+_}
 use lib.Dec.{eqb}
@@ -135,6 +135,13 @@ widthRules (ArithmeticRightShift a k) w wa wb wc = equal wa w ∷ below k w ∷ 
 -- "signed below, two's complement, with the widths of 14"
 widthRules (SignedBelow a b) w wa wb wc = equal wa wb ∷ equal w 1 ∷ []
 
+-- Which role is an input.
+abbrev pub isInput : Role → Bool
+isInput input = true
+isInput (register a k) = false
+isInput output = false
+isInput gate = false
+
 -- Which role is an output.
 abbrev pub isOutput : Role → Bool
 isOutput input = false
@@ -159,3 +166,17 @@ isHeld gate = false
 -- The operands that a kind uses.
 unfoldable pub operandsOf : Uses → List ℕ
 operandsOf u = take (u .count) (u .a ∷ u .b ∷ u .c ∷ [])
+
+-- Whether a number is in a list, and whether a kind "names" a record: its number is among the operands that the kind uses.
+abbrev pub isIn : ℕ → List ℕ → Bool
+isIn j [] = false
+isIn j (x ∷ xs) = eqb x j || isIn j xs
+
+abbrev pub names : Kind → ℕ → Bool
+names kind j = isIn j (operandsOf (usesOf kind))
+
+-- #107: "numbers are renewed": the kind with new numbers for its operands. What it does not use, it does not carry.
+unfoldable pub renumbered : (ℕ → ℕ) → Kind → Kind
+renumbered new kind =
+    let u = usesOf kind in
+    kindOf (codeOf kind) (record { a = new (u .a); b = new (u .b); c = new (u .c); k = u .k })

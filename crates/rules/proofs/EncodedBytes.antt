@@ -1,7 +1,7 @@
--- The bytes of an encoded design: its length, and the bytes and numbers of record i as those of that record's own 24 bytes.
+-- The bytes of an encoded design: its length, one record more, and the bytes and numbers of record i as those of that record's own 24 bytes.
 -- Assumes nothing.
 use mathlib.Core.Path.{_≡_, refl, sym, ap, ap₂, _∙_}
-use mathlib.Core.List.{_++_}
+use mathlib.Core.List.{List, _++_, append-assoc, append-nil}
 use Prim.Native.Nat.{ℕ, zero, suc, _+_, _*_, _≤_, _<_}
 use native.Mathlib.Nat.{add-zero, add-suc, zero-add, suc-add, le-of-suc-le-suc}
 use native.Mathlib.Omega.{arith}
@@ -16,12 +16,24 @@ pub length-record : (r : Record) → length (encodeRecord r) ≡ recordSize
 unfolding encodeRecord
 length-record r = refl
 
-length-from : (d : Design) (left i : ℕ) → length (encodeFrom d left i) ≡ recordSize * left
+pub length-from : (d : Design) (left i : ℕ) → length (encodeFrom d left i) ≡ recordSize * left
 unfolding encodeFrom
 length-from d zero i = refl
 length-from d (suc left) i =
     length-append (encodeRecord (d .at i)) (encodeFrom d left (suc i)) ∙ ap₂ _+_ (length-record (d .at i)) (length-from d left (suc i))
     ∙ omega arith
+
+-- one record more
+from-next : (d : Design) (n i : ℕ) → encodeFrom d (suc n) i ≡ encodeFrom d n i ++ encodeRecord (d .at (i + n))
+unfolding encodeFrom
+from-next d zero i = append-nil (encodeRecord (d .at i)) ∙ ap (λ (j : ℕ). encodeRecord (d .at j)) (sym (add-zero i))
+from-next d (suc n) i =
+    ap (λ (l : List ℕ). encodeRecord (d .at i) ++ l)
+    (from-next d n (suc i) ∙ ap (λ (j : ℕ). encodeFrom d n (suc i) ++ encodeRecord (d .at j)) (suc-add i n ∙ sym (add-suc i n)))
+    ∙ sym (append-assoc (encodeRecord (d .at i)) (encodeFrom d n (suc i)) (encodeRecord (d .at (i + suc n))))
+
+pub encode-next : (d : Design) (n : ℕ) → encodeFrom d (suc n) 0 ≡ encodeFrom d n 0 ++ encodeRecord (d .at n)
+encode-next d n = from-next d n 0 ∙ ap (λ (j : ℕ). encodeFrom d n 0 ++ encodeRecord (d .at j)) (zero-add n)
 
 pub length-encode : (d : Design) → length (encode d) ≡ recordStart (d .count)
 unfolding encode

@@ -1,7 +1,7 @@
 -- Laws of sound designs: operand fields name records of the design, k fits a word, a register has the width of its a, and a design that is
 -- the same in all its records is sound too. Assumes nothing.
-use mathlib.Core.Path.{_≡_, sym, ap, subst}
-use mathlib.Core.List.{List, [], _∷_}
+use mathlib.Core.Path.{_≡_, sym, ap, subst, _∙_}
+use mathlib.Core.List.{List, [], _∷_, map}
 use mathlib.Core.Bool.{false}
 use Prim.Native.Nat.{ℕ, _^_, _≤_, _<_}
 use native.Mathlib.Nat.{lt-of-lt-of-le}
@@ -13,10 +13,10 @@ use Rattle.netlist.specs.Layout.{Design, roleAt}
 use Rattle.netlist.specs.Rules.{AllHold}
 use Rattle.netlist.specs.declared.record.Kind.{Kind}
 use Rattle.netlist.specs.declared.record.Record.{Record}
-use Rattle.netlist.specs.declared.record.Role.{Role}
 use Rattle.netlist.specs.declared.record.Role.the-variants.{Register as register}
 use Rattle.netlist.specs.declared.record.Uses.{Uses}
 use Rattle.netlist.proofs.KindLaws.{padded, is-register, k-word}
+use Rattle.netlist.proofs.OperandLists.{Each}
 use Rattle.netlist.proofs.Tests.{hold-tests}
 use Rattle.rules.specs.Fit.{operandLimit, namesRules, operandRules, widthRulesAt, multiplierRules}
 use Rattle.rules.specs.Sound.{Sound, SoundRecord, SameDesign}
@@ -77,13 +77,27 @@ register-loads d s i h a k e =
       reset = subst (λ (kind : Kind). usesOf kind .word < 2 ^ d .at i .width) q (s .each i h .word);
     }
 
--- the operands' rules look only at the roles of records below the limit
-pub names-same : (d e : Design) (limit : ℕ) → ((j : ℕ) → j < limit → roleAt d j ≡ roleAt e j) → (js : List ℕ)
+-- what the operands' rules say of each operand
+abbrev pub Nameable : Design → ℕ → ℕ → Type 0
+Nameable d limit j = (j < limit) × (isOutput (roleAt d j) ≡ false)
+
+pub names-each : (d : Design) (limit : ℕ) (js : List ℕ) → AllHold (namesRules d limit js) → Each (Nameable d limit) js
+unfolding namesRules
+names-each d limit [] a = tt
+names-each d limit (j ∷ js) a = ((a .0, a .1 .0), names-each d limit js (a .1 .1))
+
+-- and of operands with new numbers
+pub each-names : (e : Design) (limit : ℕ) (new : ℕ → ℕ) (js : List ℕ) → Each (λ j. Nameable e limit (new j)) js → AllHold (namesRules e limit (map new js))
+unfolding namesRules
+each-names e limit new [] a = tt
+each-names e limit new (j ∷ js) a = (a .0 .0, (a .0 .1, each-names e limit new js (a .1)))
+
+-- the rules look only at which records below the limit are outputs
+pub names-same : (d e : Design) (limit : ℕ) → ((j : ℕ) → j < limit → isOutput (roleAt d j) ≡ isOutput (roleAt e j)) → (js : List ℕ)
     → AllHold (namesRules d limit js) → AllHold (namesRules e limit js)
 unfolding namesRules
 names-same d e limit same [] a = tt
-names-same d e limit same (j ∷ js) a =
-    (a .0, (subst (λ (r : Role). isOutput r ≡ false) (same j (a .0)) (a .1 .0), names-same d e limit same js (a .1 .1)))
+names-same d e limit same (j ∷ js) a = (a .0, (sym (same j (a .0)) ∙ a .1 .0, names-same d e limit same js (a .1 .1)))
 
 module _ (d e : Design) (same : SameDesign d e) (s : Sound d) (i : ℕ) (h : i < d .count) where
   operands-same : AllHold (operandRules e i)
@@ -92,7 +106,7 @@ module _ (d e : Design) (same : SameDesign d e) (s : Sound d) (i : ℕ) (h : i <
       subst (λ (r : Record). AllHold (namesRules e (operandLimit (usesOf (r .kind) .role) (e .count) i) (operandsOf (usesOf (r .kind))))) (same .each i h)
       (subst (λ (n : ℕ). AllHold (namesRules e (operandLimit (usesOf (d .at i .kind) .role) n i) (operandsOf (usesOf (d .at i .kind))))) (same .count)
       (names-same d e (operandLimit (usesOf (d .at i .kind) .role) (d .count) i)
-      (λ j g. ap (λ (r : Record). usesOf (r .kind) .role) (same .each j (let l = limit-count d s i h in omega arith)))
+      (λ j g. ap (λ (r : Record). isOutput (usesOf (r .kind) .role)) (same .each j (let l = limit-count d s i h in omega arith)))
       (operandsOf (usesOf (d .at i .kind))) (s .each i h .operands)))
 
   widths-same : AllHold (widthRulesAt e i)

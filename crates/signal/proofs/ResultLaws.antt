@@ -1,6 +1,6 @@
 -- The law that what a record asks is enough, kind by kind: where two runs agree on what is asked with D, the results agree on D. And a
 -- result depends on the words of records below it alone. Assumes nothing. The crates above use these laws and look at no kind.
-use mathlib.Core.Path.{_≡_, refl, subst}
+use mathlib.Core.Path.{_≡_, refl, sym, subst}
 use mathlib.Core.Bool.{Bool, true, false, cond}
 use mathlib.Core.Logic.{_⊎_, inl, inr}
 use mathlib.Core.List.{List, [], _∷_}
@@ -14,7 +14,7 @@ use Rattle.bits.proofs.Agreement.{agree-refl, agree-zero, agree-xor, agree-equa
 use Rattle.bits.proofs.Congruence.{agree-sum, agree-difference, agree-product}
 use Rattle.bits.proofs.Order.{meet-right, within-lt}
 use Rattle.netlist.specs.Limits.{maxWidth}
-use Rattle.netlist.specs.Kinds.{usesOf, widthRules, operandsOf, isHeld}
+use Rattle.netlist.specs.Kinds.{kindOf, usesOf, widthRules, operandsOf, renumbered, isHeld}
 use Rattle.netlist.specs.Layout.{Design, roleAt}
 use Rattle.netlist.specs.Rules.{AllHold}
 use Rattle.netlist.specs.declared.record.Kind.{Kind}
@@ -22,9 +22,11 @@ use Rattle.netlist.specs.declared.record.Kind.the-variants.{Input, Constant, Re
 use Rattle.netlist.specs.declared.record.Record.{Record}
 use Rattle.netlist.specs.declared.record.Role.{Role}
 use Rattle.netlist.specs.declared.record.Role.the-variants.{Input as input, Register as register, Output as output, Gate as gate}
+use Rattle.netlist.proofs.KindLaws.{kind-back}
+use Rattle.netlist.proofs.OperandLists.{Each, each-more}
 use Rattle.rules.specs.Fit.{operandLimit, namesRules, operandRules, widthRulesAt}
 use Rattle.rules.specs.Sound.{Sound}
-use Rattle.rules.proofs.SoundLaws.{operands-below}
+use Rattle.rules.proofs.SoundLaws.{operands-below, names-each}
 use Rattle.signal.specs.Results.{arithmeticDown, signedAt, resultOf, resultAt}
 use Rattle.signal.specs.Asks.{ask, ifAny, allIfAny, upWithin, topIfCopied, eachBeside, asksOf, demandOf, asked}
 use Rattle.signal.specs.declared.Ask.{Ask}
@@ -135,32 +137,38 @@ module _ (d : Design) (s : Sound d) (i : ℕ) (h : i < d .count) (v v′ : ℕ �
 
 -- ---- what a result depends on
 
--- a result depends on the operands that the kind uses, and on the record's own word where that counts
-module _ (d : Design) (limit : ℕ) (v v′ : ℕ → ℕ) (same : (j : ℕ) → j < limit → v j ≡ v′ j) where
-  results-same : (kind : Kind) (w wb own own′ : ℕ) → (isHeld (usesOf kind .role) ≡ true → own ≡ own′)
-      → (isHeld (usesOf kind .role) ≡ false → AllHold (namesRules d limit (operandsOf (usesOf kind))))
-      → resultOf kind w wb own (v (usesOf kind .a)) (v (usesOf kind .b)) (v (usesOf kind .c))
-      ≡ resultOf kind w wb own′ (v′ (usesOf kind .a)) (v′ (usesOf kind .b)) (v′ (usesOf kind .c))
-  unfolding namesRules operandsOf
-  results-same Input w wb own own′ held named = held refl
-  results-same (Constant k) w wb own own′ held named = refl
-  results-same (Register a k) w wb own own′ held named = held refl
-  results-same (Output a) w wb own own′ held named = same a (named refl .0)
-  results-same (Extract a k) w wb own own′ held named = rw (same a (named refl .0))
-  results-same (Concat a b) w wb own own′ held named = rw (same a (named refl .0), same b (named refl .1 .1 .0))
-  results-same (And a b) w wb own own′ held named = rw (same a (named refl .0), same b (named refl .1 .1 .0))
-  results-same (Or a b) w wb own own′ held named = rw (same a (named refl .0), same b (named refl .1 .1 .0))
-  results-same (Xor a b) w wb own own′ held named = rw (same a (named refl .0), same b (named refl .1 .1 .0))
-  results-same (Mux a b c) w wb own own′ held named = rw (same a (named refl .0), same b (named refl .1 .1 .0), same c (named refl .1 .1 .1 .1 .0))
-  results-same (Add a b) w wb own own′ held named = rw (same a (named refl .0), same b (named refl .1 .1 .0))
-  results-same (Sub a b) w wb own own′ held named = rw (same a (named refl .0), same b (named refl .1 .1 .0))
-  results-same (Mul a b) w wb own own′ held named = rw (same a (named refl .0), same b (named refl .1 .1 .0))
-  results-same (Equal a b) w wb own own′ held named = rw (same a (named refl .0), same b (named refl .1 .1 .0))
-  results-same (Below a b) w wb own own′ held named = rw (same a (named refl .0), same b (named refl .1 .1 .0))
-  results-same (LeftShift a k) w wb own own′ held named = rw (same a (named refl .0))
-  results-same (RightShift a k) w wb own own′ held named = rw (same a (named refl .0))
-  results-same (ArithmeticRightShift a k) w wb own own′ held named = rw (same a (named refl .0))
-  results-same (SignedBelow a b) w wb own own′ held named = rw (same a (named refl .0), same b (named refl .1 .1 .0))
+-- a result depends on the operands that the kind uses, and on the record's own word where that counts. Operands may have new numbers, each with
+-- its old value and width.
+module _ (new widths widths′ v v′ : ℕ → ℕ) where
+  abbrev Same : ℕ → Type 0
+  Same j = (v j ≡ v′ (new j)) × (widths j ≡ widths′ (new j))
+
+  results-same : (kind : Kind) (w own own′ : ℕ) → (isHeld (usesOf kind .role) ≡ true → own ≡ own′)
+      → (isHeld (usesOf kind .role) ≡ false → Each Same (operandsOf (usesOf kind)))
+      → let u = usesOf kind in
+      let u′ = usesOf (renumbered new kind) in
+      resultOf kind w (widths (u .b)) own (v (u .a)) (v (u .b)) (v (u .c))
+      ≡ resultOf (renumbered new kind) w (widths′ (u′ .b)) own′ (v′ (u′ .a)) (v′ (u′ .b)) (v′ (u′ .c))
+  unfolding renumbered kindOf operandsOf
+  results-same Input w own own′ held same = held refl
+  results-same (Constant k) w own own′ held same = refl
+  results-same (Register a k) w own own′ held same = held refl
+  results-same (Output a) w own own′ held same = same refl .0 .0
+  results-same (Extract a k) w own own′ held same = rw (same refl .0 .0)
+  results-same (Concat a b) w own own′ held same = rw (same refl .0 .0, same refl .1 .0 .0, same refl .1 .0 .1)
+  results-same (And a b) w own own′ held same = rw (same refl .0 .0, same refl .1 .0 .0)
+  results-same (Or a b) w own own′ held same = rw (same refl .0 .0, same refl .1 .0 .0)
+  results-same (Xor a b) w own own′ held same = rw (same refl .0 .0, same refl .1 .0 .0)
+  results-same (Mux a b c) w own own′ held same = rw (same refl .0 .0, same refl .1 .0 .0, same refl .1 .1 .0 .0)
+  results-same (Add a b) w own own′ held same = rw (same refl .0 .0, same refl .1 .0 .0)
+  results-same (Sub a b) w own own′ held same = rw (same refl .0 .0, same refl .1 .0 .0)
+  results-same (Mul a b) w own own′ held same = rw (same refl .0 .0, same refl .1 .0 .0)
+  results-same (Equal a b) w own own′ held same = rw (same refl .0 .0, same refl .1 .0 .0)
+  results-same (Below a b) w own own′ held same = rw (same refl .0 .0, same refl .1 .0 .0)
+  results-same (LeftShift a k) w own own′ held same = rw (same refl .0 .0)
+  results-same (RightShift a k) w own own′ held same = rw (same refl .0 .0)
+  results-same (ArithmeticRightShift a k) w own own′ held same = rw (same refl .0 .0)
+  results-same (SignedBelow a b) w own own′ held same = rw (same refl .0 .0, same refl .1 .0 .0, same refl .1 .0 .1)
 
 -- a record whose own word does not count names records below it
 limit-own : (role : Role) (n i : ℕ) → isHeld role ≡ false → operandLimit role n i ≡ i
@@ -175,9 +183,20 @@ unfolding operandRules
 names-below d s i h e =
     subst (λ (limit : ℕ). AllHold (namesRules d limit (operandsOf (usesOf (d .at i .kind))))) (limit-own (roleAt d i) (d .count) i e) (s .each i h .operands)
 
+-- the record of another design with this one's kind, with new numbers for its operands
+module _ (at at′ : ℕ → Record) (new : ℕ → ℕ) (i i′ : ℕ) (kind : at′ i′ .kind ≡ renumbered new (at i .kind)) (width : at′ i′ .width ≡ at i .width)
+    (v v′ : ℕ → ℕ) where
+  pub result-renumbered : (isHeld (usesOf (at i .kind) .role) ≡ true → v i ≡ v′ i′)
+      → (isHeld (usesOf (at i .kind) .role) ≡ false → Each (Same new (λ j. at j .width) (λ j. at′ j .width) v v′) (operandsOf (usesOf (at i .kind))))
+      → resultAt at v i ≡ resultAt at′ v′ i′
+  unfolding resultAt
+  result-renumbered held same =
+      rw (kind, width) (results-same new (λ j. at j .width) (λ j. at′ j .width) v v′ (at i .kind) (at i .width) (v i) (v′ i′) held same)
+
+-- the same record, where the words of records below it are the same
 module _ (d : Design) (s : Sound d) (i : ℕ) (h : i < d .count) (v v′ : ℕ → ℕ) where
   pub result-same : ((j : ℕ) → j < i → v j ≡ v′ j) → (isHeld (roleAt d i) ≡ true → v i ≡ v′ i) → resultAt (d .at) v i ≡ resultAt (d .at) v′ i
-  unfolding resultAt
+  unfolding renumbered
   result-same same held =
-      let kind = d .at i .kind in
-      results-same d i v v′ same kind (d .at i .width) (d .at (usesOf kind .b) .width) (v i) (v′ i) held (names-below d s i h)
+      result-renumbered (d .at) (d .at) (λ j. j) i i (sym (kind-back (d .at i .kind))) refl v v′ held
+      (λ e. each-more (λ j n. (same j (n .0), refl)) (operandsOf (usesOf (d .at i .kind))) (names-each d i _ (names-below d s i h e)))
