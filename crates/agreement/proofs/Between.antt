@@ -24,7 +24,7 @@ use Rattle.clock.specs.Values.{putWord, withInputs, nextOf, nextWord, startOf, 
 use Rattle.clock.proofs.InputLaws.{input-word}
 use Rattle.clock.proofs.StateLaws.{start-word, next-word}
 use Rattle.agreement.specs.Claim.{AtRegisters, AtInputs}
-use Rattle.agreement.proofs.Follow.{Follows, role-same}
+use Rattle.agreement.proofs.Follow.{Follows, followed, role-same}
 use Rattle.agreement.proofs.OneCycle.{AllClose}
 
 pub record Tied (d : Design) (masks board board′ : List ℕ) : Type 0 where
@@ -46,9 +46,11 @@ module _ (d e : Design) (masks : List ℕ) (f : Follows d e (maskAt masks)) wher
   tied-start =
       record {
         each = λ i a k h q.
+            followed d e (maskAt masks) f i h (meet-left (maskAt masks i) (d .at i .keep))
+            (λ same.
             let word = start-word d i h in
-            let word′ = start-word e i (in-second i h) ∙ ap startWord (role-same d e (maskAt masks) f i h) in
-            rw (word, word′) (agree-refl (D i) (startWord (roleAt d i)));
+            let word′ = start-word e i (in-second i h) ∙ ap startWord (role-same d e (maskAt masks) f i h same) in
+            rw (word, word′) (agree-refl (D i) (startWord (roleAt d i))));
       }
 
   -- "a register's a has D": the values of a agree on its mask, and so on D of the register
@@ -57,10 +59,12 @@ module _ (d e : Design) (masks : List ℕ) (f : Follows d e (maskAt masks)) wher
   tied-next s seed closed values values′ close =
       record {
         each = λ i a k h q.
+            followed d e (maskAt masks) f i h (meet-left (maskAt masks i) (d .at i .keep))
+            (λ same.
             let word = next-word d values i h ∙ ap (nextWord values) q in
-            let word′ = next-word e values′ i (in-second i h) ∙ ap (nextWord values′) (role-same d e (maskAt masks) f i h ∙ q) in
+            let word′ = next-word e values′ i (in-second i h) ∙ ap (nextWord values′) (role-same d e (maskAt masks) f i h same ∙ q) in
             let asks = subst (λ (asks : List Ask). Granted asks (maskAt masks)) (register-asks d i a k (maskAt masks i) q) (closed .granted i h) in
-            rw (word, word′) (agree-within (asks .0) (close a (register-loads d s i h a k q .below) .agree));
+            rw (word, word′) (agree-within (asks .0) (close a (register-loads d s i h a k q .below) .agree)));
       }
 
   -- what a cycle needs: the words put at the inputs have equal cared bits, and the words at the registers are tied
@@ -76,8 +80,10 @@ module _ (d e : Design) (masks : List ℕ) (f : Follows d e (maskAt masks)) wher
     pub held-agree : (i : ℕ) → i < d .count → isHeld (roleAt d i) ≡ true
         → Agree (D i) (wordAt (withInputs d words board) i) (wordAt (withInputs e words′ board′) i)
     held-agree i h held =
+        followed d e (maskAt masks) f i h (meet-left (maskAt masks i) (d .at i .keep))
+        (λ same.
         let word = input-word d words board i (omega arith) in
         let word′ =
         input-word e words′ board′ i (let l = in-second i h in omega arith)
-        ∙ ap (λ (role : Role). putWord role (words′ i) (wordAt board′ i)) (role-same d e (maskAt masks) f i h) in
-        rw (word, word′) (by-role i h (roleAt d i) refl held)
+        ∙ ap (λ (role : Role). putWord role (words′ i) (wordAt board′ i)) (role-same d e (maskAt masks) f i h same) in
+        rw (word, word′) (by-role i h (roleAt d i) refl held))

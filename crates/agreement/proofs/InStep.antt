@@ -1,6 +1,7 @@
--- Two runs of anything that starts and cycles: where they are tied between calls, all their accepted cycles are close.
+-- Two runs of anything that starts and cycles: where they are tied between calls, or begin with a start, all their accepted cycles are close.
 -- Assumes nothing of what tied, alike and close mean.
 use mathlib.Core.Path.{_≡_, refl, sym, ap}
+use mathlib.Core.Bool.{Bool, false}
 use mathlib.Core.List.{List, [], _∷_}
 use mathlib.Core.Option.{Option·some-injective}
 use Prim.Native.Nat.{ℕ, zero, suc}
@@ -70,3 +71,21 @@ module _ {L L′ : Type 0} {machine : Machine L} {machine′ : Machine L′} {Ti
       kindsOf first ≡ kindsOf second → AlikeCycles first second → CloseCycles first second
   runs-close board board′ calls calls′ tied kinds alike =
       chains-close _ _ board board′ (chain-of machine 0 board calls) (chain-of machine′ 0 board′ calls′) kinds tied alike
+
+  -- two chains that begin with a start are tied from then on, whatever boards they begin with
+  from-start : (first : List (Step L)) (second : List (Step L′)) (later : List Bool) (board : L) (board′ : L′) → Chain machine board first
+      → Chain machine′ board′ second → kindsOf first ≡ false ∷ later → kindsOf first ≡ kindsOf second → AlikeCycles first second → CloseCycles first second
+  unfolding kindsOf cyclesOf
+  from-start [] second later board board′ x y begins kinds alike = absurd (let q = ap length begins in omega arith)
+  from-start (cycled c ∷ first) second later board board′ x y begins kinds alike = absurd (let z : _≡_ {A = ℕ} 0 1 = cc in omega arith)
+  from-start (started ∷ first) [] later board board′ x y begins kinds alike = absurd (let q = ap length kinds in omega arith)
+  from-start (started ∷ first) (cycled c ∷ second) later board board′ x y begins kinds alike = absurd (let z : _≡_ {A = ℕ} 0 1 = cc in omega arith)
+  from-start (started ∷ first) (started ∷ second) later board board′ x y begins kinds alike =
+      chains-close first second _ _ (x .1) (y .1) (ap (drop 1) kinds) (s .starts board board′ (x .0) (y .0)) alike
+
+  pub runs-from-start : (board : L) (board′ : L′) (calls : List (Call L)) (calls′ : List (Call L′)) (later : List Bool)
+      → let first = runOf machine board calls in
+      let second = runOf machine′ board′ calls′ in
+      kindsOf first ≡ false ∷ later → kindsOf first ≡ kindsOf second → AlikeCycles first second → CloseCycles first second
+  runs-from-start board board′ calls calls′ later begins kinds alike =
+      from-start _ _ later board board′ (chain-of machine 0 board calls) (chain-of machine′ 0 board′ calls′) begins kinds alike

@@ -1,4 +1,4 @@
--- The claim about two runs, and what it rests on.
+-- The claims about two runs, and what they rest on.
 -- Assumes nothing.
 pub mod RunLaws
 pub mod Chains
@@ -8,3 +8,7 @@ pub mod Follow
 pub mod OneCycle
 pub mod Between
 pub mod TwoRuns
+pub mod PartCycle
+pub mod CompactedCycle
+pub mod CompactedRuns
+pub mod CompactedAccepts

@@ -11,6 +11,7 @@ use lib.Seq.{getD-set-same, getD-set-other}
 use Rattle.endian.specs.Lists.{wordAt}
 use Rattle.bits.specs.Masks.{Agree}
 use Rattle.bits.proofs.Agreement.{agree-refl, agree-sym, agree-trans, agree-within, agree-keep, agree-and}
+use Rattle.bits.proofs.Order.{within-refl}
 use Rattle.netlist.specs.Kinds.{isHeld}
 use Rattle.netlist.specs.Layout.{Design, roleAt}
 use Rattle.rules.specs.Sound.{Sound}
@@ -24,7 +25,7 @@ use Rattle.signal.proofs.ResultLaws.{AllMet, result-agree}
 use Rattle.care.specs.Least.{Closed, maskAt}
 use Rattle.clock.specs.Values.{unchanged, valueAt, valuesOf}
 use Rattle.clock.proofs.ValueLaws.{length-values, value-defined, values-narrow}
-use Rattle.agreement.proofs.Follow.{Follows, result-follows}
+use Rattle.agreement.proofs.Follow.{Follows, followed, result-follows}
 use Rattle.agreement.proofs.ScrambleLaws.{Gentle}
 
 -- Two values of signal i agree on its mask and lie within its width, and in the first run a constant has its value.
@@ -99,7 +100,8 @@ module _ (d e : Design) (sd : Sound d) (se : Sound e) (masks : List ℕ) (seed :
     kept : Agree m (valueAt d x i) (valueAt e x′ i)
     kept =
         agree-trans (agree-keep (d .at i .keep) results)
-        (rw (result-follows d e (maskAt masks) f i h sd (wordAt x′)) (agree-and (agree-refl m (resultAt (d .at) (wordAt x′) i)) (f .keep i h)))
+        (followed d e (maskAt masks) f i h (within-refl m)
+        (λ q. rw (result-follows d e (maskAt masks) f i h q sd (wordAt x′)) (agree-and (agree-refl m (resultAt (d .at) (wordAt x′) i)) (f .keep i h))))
 
     next : Close d (maskAt masks) values values′ i
     next =

@@ -78,7 +78,7 @@ module _ (file file′ masks : List ℕ) (sound : Sound (designOf file)) (seed :
   files-in-step = record { starts = starts-tied; cycles = λ j. close-and-tied }
 
 -- the values of an output are equal, since its mask has all its bits
-outputs-equal : (d : Design) (masks values values′ : List ℕ) → ((i : ℕ) → i < d .count → Within (outputSeed d i) (maskAt masks i))
+pub outputs-equal : (d : Design) (masks values values′ : List ℕ) → ((i : ℕ) → i < d .count → Within (outputSeed d i) (maskAt masks i))
     → AllClose d (maskAt masks) values values′ → AtOutputs d values values′
 outputs-equal d masks values values′ seeded close i h q =
     let c = close i h in

@@ -30,7 +30,8 @@ use Rattle.clock.specs.declared.Clocked.the-variants.{Done as clocked, Refused 
 use Rattle.trim.specs.Call.{trimAnswer, trimAfter, trimCall}
 use Rattle.trim.specs.CallBy.{listAnswer, trimByCall}
 use Rattle.trim.proofs.CallByLaws.{by-ends}
-use Rattle.answer.specs.Fits.{CheckFits, TalliedFits, ClockedFits}
+use Rattle.compact.specs.Call.{compactAnswer, compactAfter, compactCall}
+use Rattle.answer.specs.Fits.{CheckFits, TalliedFits, ClockedFits, WrittenFits}
 
 record-low : (file : List ℕ) (r : Refusal) (i : ℕ) → checkOf file ≡ refused r i → i < 2 ^ 32
 record-low file r i e = let h = refused-low file r i e in omega arith
@@ -85,6 +86,17 @@ trim-by-fits file list destination =
     named : (r : Refusal) (i : ℕ) → (i ≡ 0) ⊎ (checkOf file ≡ refused r i) → i < 2 ^ 32
     named r i (inl e) = omega arith
     named r i (inr e) = record-low file r i e
+
+-- ---- compact
+
+written-case : (a : Tallied) (size : ℕ) → TalliedFits a → WrittenFits (compactAnswer a size)
+unfolding compactAnswer
+written-case (Done t) size h = tt
+written-case (Refused r i) size h = h
+
+pub compact-fits : (file list destination : List ℕ) → WrittenFits (compactCall file list destination .answer)
+unfolding compactAfter
+compact-fits file list destination = written-case _ _ (trim-fits file list destination)
 
 -- ---- start and cycle
 

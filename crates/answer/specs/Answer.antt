@@ -9,6 +9,8 @@ use Rattle.care.specs.declared.Tallied.{Tallied}
 use Rattle.care.specs.declared.Tallied.the-variants.{Done, Refused}
 use Rattle.clock.specs.declared.Clocked.{Clocked}
 use Rattle.clock.specs.declared.Clocked.the-variants.{Done as clocked, Refused as clockRefused}
+use Rattle.compact.specs.declared.Written.{Written}
+use Rattle.compact.specs.declared.Written.the-variants.{Done as written, Refused as writeRefused}
 
 -- "when refused, 2^63 + 2^32 × the refusal number + the record"
 abbrev pub refusedAnswer : ℕ → ℕ → ℕ
@@ -31,3 +33,8 @@ checkAnswer (refused r i) = refusedAnswer (numberOf r) i
 unfoldable pub clockedAnswer : Clocked → ℕ
 clockedAnswer clocked = 0
 clockedAnswer (clockRefused r i) = refusedAnswer (numberOf r) i
+
+-- #107: "the answer is the new length"
+unfoldable pub writtenAnswer : Written → ℕ
+writtenAnswer (written size) = size
+writtenAnswer (writeRefused r i) = refusedAnswer (numberOf r) i

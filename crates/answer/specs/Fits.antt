@@ -7,6 +7,8 @@ use Rattle.care.specs.declared.Tallied.{Tallied}
 use Rattle.care.specs.declared.Tallied.the-variants.{Done, Refused}
 use Rattle.clock.specs.declared.Clocked.{Clocked}
 use Rattle.clock.specs.declared.Clocked.the-variants.{Done as clocked, Refused as clockRefused}
+use Rattle.compact.specs.declared.Written.{Written}
+use Rattle.compact.specs.declared.Written.the-variants.{Done as written, Refused as writeRefused}
 
 abbrev pub CheckFits : Checked → Type 0
 CheckFits (Accepted n) = Unit {0}
@@ -19,3 +21,7 @@ TalliedFits (Refused r i) = i < 2 ^ 32
 abbrev pub ClockedFits : Clocked → Type 0
 ClockedFits clocked = Unit {0}
 ClockedFits (clockRefused r i) = i < 2 ^ 32
+
+abbrev pub WrittenFits : Written → Type 0
+WrittenFits (written size) = Unit {0}
+WrittenFits (writeRefused r i) = i < 2 ^ 32

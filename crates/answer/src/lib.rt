@@ -3,13 +3,14 @@
 use care::Tallied;
 use care::Tally;
 use clock::Clocked;
+use compact::Written;
 use netlist::refusal::Refusal;
 use rules::Checked;
 ghost use mathlib.Core.Path.{_≡_};
 ghost use Prim.Native.Nat.{_<_, _^_};
 ghost use Rattle.netlist.specs.Refusals.{numberOf};
-ghost use Rattle.answer.specs.Answer.{refusedAnswer, tallyAnswer, checkAnswer, talliedAnswer, clockedAnswer};
-ghost use Rattle.answer.specs.Fits.{CheckFits, TalliedFits, ClockedFits};
+ghost use Rattle.answer.specs.Answer.{refusedAnswer, tallyAnswer, checkAnswer, talliedAnswer, clockedAnswer, writtenAnswer};
+ghost use Rattle.answer.specs.Fits.{CheckFits, TalliedFits, ClockedFits, WrittenFits};
 
 // The answer of a refused call: bit 63, the refusal's number from bit 32 on, and the record.
 fn refused(r: Refusal, i: usize) -> u64
@@ -59,5 +60,16 @@ pub fn of_clocked(answer: Clocked) -> u64
     match answer {
         Clocked::Done => 0,
         Clocked::Refused(r, i) => refused(r, i),
+    }
+}
+
+// The answer of an operation that says how many bytes it wrote.
+pub fn of_written(answer: Written) -> u64
+    requires { ⌜ WrittenFits answer ⌝ }
+    ensures { λ r. ⌜ r ≡ writtenAnswer answer ⌝ }
+{
+    match answer {
+        Written::Done(size) => size as u64,
+        Written::Refused(r, i) => refused(r, i),
     }
 }

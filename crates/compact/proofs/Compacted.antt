@@ -1,17 +1,15 @@
 -- The compacted design: it is sound, what each of its records is, and that its file is accepted, holds it, and is no longer than the old one.
 -- Assumes nothing.
 use mathlib.Core.Path.{_≡_, refl, ap, _∙_}
-use mathlib.Core.Bool.{Bool, true, false, _||_}
+use mathlib.Core.Bool.{true, false}
 use mathlib.Core.List.{List}
 use Prim.Native.Nat.{ℕ, _≤_, _<_}
 use native.Mathlib.Omega.{arith}
 use lib.ListN.{length}
-use Rattle.netlist.specs.Kinds.{kindOf, isInput, isOutput, renumbered}
+use Rattle.netlist.specs.Kinds.{kindOf, renumbered}
 use Rattle.netlist.specs.Layout.{Design, designOf, countOf, recordStart, roleAt}
 use Rattle.netlist.specs.Picked.{rankOf}
 use Rattle.netlist.specs.declared.record.Record.{Record}
-use Rattle.netlist.specs.declared.record.Role.{Role}
-use Rattle.netlist.proofs.Tests.{by-test}
 use Rattle.rules.specs.Check.{checkOf}
 use Rattle.rules.specs.Encode.{encode, StandsFor}
 use Rattle.rules.specs.Sound.{Sound}
@@ -22,22 +20,17 @@ use Rattle.rules.proofs.EncodedBytes.{length-encode}
 use Rattle.care.specs.Least.{maskAt, masksOf}
 use Rattle.trim.specs.Trimmed.{trimRecord, trimDesign}
 use Rattle.trim.proofs.Trimmed.{trim-sound}
-use Rattle.compact.specs.Survivors.{isPort, isBlank, blank, withBlanks, blanked, survives}
+use Rattle.compact.specs.Survivors.{isBlank, blank, withBlanks, blanked, survives}
 use Rattle.compact.specs.Part.{renumberedRecord, compact, newNumber, compacted}
 use Rattle.compact.proofs.BlankLaws.{blank-here, none-here, blanks-sound}
 use Rattle.compact.proofs.PartLaws.{PartOf, part-of, part-few, part-same, part-sound}
-use Rattle.compact.proofs.SurvivorLaws.{blank-no-port, names-survive}
-
-no-port : (role : Role) → isPort role ≡ false → isOutput role ≡ false
-no-port role e =
-    by-test (isInput role) (λ i. absurd (let q = ap (λ (b : Bool). b || isOutput role) i in let z : _≡_ {A = ℕ} 0 1 = cc in omega arith))
-    (λ i. cc (ap (λ (b : Bool). b || isOutput role) i))
+use Rattle.compact.proofs.SurvivorLaws.{no-output, blank-no-port, names-survive}
 
 module _ (d : Design) (s : Sound d) (masks : List ℕ) where
   pub blanked-sound : Sound (blanked d masks)
   unfolding blanked trimDesign
   blanked-sound =
-      blanks-sound (isBlank d masks) (trimDesign d masks) (trim-sound d s masks) (λ i e. no-port (roleAt d i) (blank-no-port d masks i e))
+      blanks-sound (isBlank d masks) (trimDesign d masks) (trim-sound d s masks) (λ i e. no-output (roleAt d i) (blank-no-port d masks i e))
 
   pub compact-part : PartOf (survives d masks) (blanked d masks) (compact d masks)
   unfolding compact

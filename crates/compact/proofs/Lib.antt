@@ -4,4 +4,6 @@ pub mod PartLaws
 pub mod BlankLaws
 pub mod SurvivorLaws
 pub mod Compacted
+pub mod Ports
 pub mod CallLaws
+pub mod Promises

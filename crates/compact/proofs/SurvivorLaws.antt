@@ -16,6 +16,7 @@ use Rattle.netlist.specs.Lowest.{lowest}
 use Rattle.netlist.specs.declared.record.Kind.{Kind}
 use Rattle.netlist.specs.declared.record.Record.{Record}
 use Rattle.netlist.specs.declared.record.Role.{Role}
+use Rattle.netlist.specs.declared.record.Role.the-variants.{Gate}
 use Rattle.netlist.proofs.LowestLaws.{not-both, lowest-cases}
 use Rattle.netlist.proofs.OperandLists.{Each, each-more, each-in, in-each}
 use Rattle.netlist.proofs.Tests.{by-test}
@@ -33,8 +34,17 @@ use Rattle.compact.proofs.PartLaws.{NamesInside}
 
 -- ---- ports, blanks and names
 
-output-port : (role : Role) → isOutput role ≡ true → isPort role ≡ true
+pub input-port : (role : Role) → isInput role ≡ true → isPort role ≡ true
+input-port role e = ap (λ (b : Bool). b || isOutput role) e
+
+pub output-port : (role : Role) → isOutput role ≡ true → isPort role ≡ true
 output-port role e = by-test (isInput role) (λ i. ap (λ (b : Bool). b || isOutput role) i) (λ i. ap (λ (b : Bool). b || isOutput role) i ∙ e)
+
+pub no-input : (role : Role) → isPort role ≡ false → isInput role ≡ false
+no-input role e = by-test (isInput role) (λ i. not-both (input-port role i) e) (λ i. i)
+
+pub no-output : (role : Role) → isPort role ≡ false → isOutput role ≡ false
+no-output role e = by-test (isOutput role) (λ o. not-both (output-port role o) e) (λ o. o)
 
 -- a test that fails as a whole though its first part passes
 second-fails : (a b : Bool) → (a && not b) ≡ false → a ≡ true → b ≡ true
@@ -74,10 +84,22 @@ module _ (d : Design) (masks : List ℕ) (i : ℕ) where
   unfolding blanked operandsOf
   blank-operands e = ap (λ (r : Record). operandsOf (usesOf (r .kind))) (blank-here (isBlank d masks) (trimDesign d masks) i e)
 
+  -- which record is an input, and which an output, stays
+  pub port-stays : (f : Role → Bool) → f Gate ≡ false → (isPort (roleAt d i) ≡ false → f (roleAt d i) ≡ false) → f (roleAt (blanked d masks) i) ≡ f (roleAt d i)
+  unfolding blanked
+  port-stays f gate none =
+      by-test (isBlank d masks i)
+      (λ b.
+      ap (λ (r : Record). f (usesOf (r .kind) .role)) (blank-here (isBlank d masks) (trimDesign d masks) i b) ∙ gate ∙ sym (none (blank-no-port b)))
+      (λ b. ap (λ (k : Kind). f (usesOf k .role)) (stays-kind b))
+
   -- whoever is no blank survives
   pub stays-survives : isBlank d masks i ≡ false → survives d masks i ≡ true
   unfolding survives
   stays-survives e = ap (λ (b : Bool). not b || isNamed (blanked d masks) (d .count) i) e
+
+  pub cared-survives : (maskAt masks i ≡ 0 → ⊥) → survives d masks i ≡ true
+  cared-survives m = by-test (isBlank d masks i) (λ b. absurd (m (blank-mask b))) stays-survives
 
 -- being named
 module _ (d : Design) (n j : ℕ) where
