@@ -1,4 +1,5 @@
--- The examples of 01 that are marked P: one table, each row from the bytes of a file; refused multipliers, a run, and lists to trim by, as further ones.
+-- The examples of 01 that are marked P: one table, each row from the bytes of a file; refused multipliers, a run, lists to trim by and compacted files,
+-- as further ones.
 -- Assumes nothing.
 use mathlib.Core.List.{List, [], _∷_, _++_}
 use Prim.Native.Nat.{ℕ}
@@ -14,6 +15,9 @@ use Rattle.care.specs.declared.Tallied.the-variants.{Done, Refused}
 use Rattle.clock.specs.Call.{cycleCall}
 use Rattle.clock.specs.Values.{unchanged}
 use Rattle.trim.specs.CallBy.{trimByCall}
+use Rattle.compact.specs.Call.{compactCall}
+use Rattle.compact.specs.declared.Written.{Written}
+use Rattle.compact.specs.declared.Written.the-variants.{Done as written, Refused as notWritten}
 use Rattle.agreement.specs.Runs.{Call, start, cycle, Cycle, runOf, ofFile, cyclesOf}
 
 -- The bytes of a record: kind, width, a, b, c, k and keep word. "All keep words are full unless stated."
@@ -168,3 +172,55 @@ listAnswers =
     ∷ listSays shiftChain (3 ∷ 0xf ∷ 7 ∷ 0xf ∷ 1 ∷ 1 ∷ [])
     ∷ listSays shiftChain (3 ∷ 0xf ∷ 7 ∷ 0xf ∷ 1 ∷ 0 ∷ [])
     ∷ []
+
+-- What compact answers for a file, and then the destination that it leaves, not from 01. Before the call each byte of that is hex ee.
+abbrev old : ℕ → List ℕ
+old n = wordsOf (λ i. 0xee) n
+
+abbrev lengthOf : Written → List ℕ
+lengthOf (written size) = size ∷ []
+lengthOf (notWritten r i) = numberOf r ∷ i ∷ []
+
+abbrev compactSays : List ℕ → List ℕ
+compactSays file =
+    let call = compactCall file (wordsOf (λ i. 0) (countOf file)) (old (length file)) in
+    lengthOf (call .answer) ++ call .destination
+
+-- An input that nobody reads; a register that only record 3 reads; 3, which only an output that keeps no bit reads; and a register that is read beside
+-- a constant without a bit.
+abbrev leftovers : List ℕ
+leftovers =
+    fileWith (
+    input 8
+    ∷ input 8
+    ∷ register 8 3 7
+    ∷ add 8 2 1
+    ∷ register 8 6 9
+    ∷ constant 8 0
+    ∷ full 6 8 4 5 0 0
+    ∷ output 8 6
+    ∷ kept 3 8 3 0 0 0 0
+    ∷ output 8 1
+    ∷ [])
+
+-- What is left of it: the unread input keeps no bit, the register that only 3 reads is gone, and 3 and the other register are constants.
+abbrev remainder : List ℕ
+remainder =
+    fileWith (
+    kept 0 8 0 0 0 0 0
+    ∷ input 8
+    ∷ kept 1 8 0 0 0 0 0
+    ∷ kept 1 8 0 0 0 0 0
+    ∷ constant 8 0
+    ∷ full 6 8 3 4 0 0
+    ∷ output 8 5
+    ∷ kept 3 8 2 0 0 0 0
+    ∷ output 8 1
+    ∷ [])
+
+-- Of the counter nothing is left, of the shift chain all.
+unfoldable pub compactAnswers : List (List ℕ)
+compactAnswers = compactSays counter ∷ compactSays shiftChain ∷ compactSays leftovers ∷ []
+
+unfoldable pub compactSaid : List (List ℕ)
+compactSaid = (8 ∷ (fileWith [] ++ old 72)) ∷ (152 ∷ shiftChain) ∷ (224 ∷ (remainder ++ old 24)) ∷ []
