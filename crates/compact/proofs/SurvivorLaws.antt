@@ -96,7 +96,7 @@ module _ (d : Design) (masks : List ℕ) (i : ℕ) where
   -- whoever is no blank survives
   pub stays-survives : isBlank d masks i ≡ false → survives d masks i ≡ true
   unfolding survives
-  stays-survives e = ap (λ (b : Bool). not b || isNamed (blanked d masks) (d .count) i) e
+  stays-survives e = rw e
 
   pub cared-survives : (maskAt masks i ≡ 0 → ⊥) → survives d masks i ≡ true
   cared-survives m = by-test (isBlank d masks i) (λ b. absurd (m (blank-mask b))) stays-survives
@@ -104,12 +104,11 @@ module _ (d : Design) (masks : List ℕ) (i : ℕ) where
 -- being named
 module _ (d : Design) (n j : ℕ) where
   pub named-by : (i : ℕ) → i < n → names (d .at i .kind) j ≡ true → isNamed d n j ≡ true
-  named-by i h e =
-      lowest-cases (λ k. names (d .at k .kind) j) (λ k. true) false n (λ b. b ≡ true) (λ k g p c. refl) (λ clear. not-both e (clear i h))
+  named-by i h e = lowest-cases (λ k. names (d .at k .kind) j) _ _ n (λ b. b ≡ true) (λ k g p c. refl) (λ clear. not-both e (clear i h))
 
   pub named-only : {P : Type 0} → ((i : ℕ) → i < n → names (d .at i .kind) j ≡ true → P) → isNamed d n j ≡ true → P
   named-only {P} here =
-      lowest-cases (λ k. names (d .at k .kind) j) (λ k. true) false n (λ b. b ≡ true → P) (λ k g p c e. here k g p)
+      lowest-cases (λ k. names (d .at k .kind) j) _ _ n (λ b. b ≡ true → P) (λ k g p c e. here k g p)
       (λ clear e. absurd (let z : _≡_ {A = ℕ} 0 1 = cc in omega arith))
 
 -- ---- the sentences of #107 are so of the survivors
@@ -119,10 +118,8 @@ module _ (d : Design) (masks : List ℕ) where
   unfolding survives
   named-survives i j h b e =
       by-test (isBlank d masks j)
-      (λ t.
-      ap (λ (t : Bool). not t || isNamed (blanked d masks) (d .count) j) t
-      ∙ named-by (blanked d masks) (d .count) j i h (ap (λ (k : Kind). names k j) (stays-kind d masks i b) ∙ e))
-      (λ t. ap (λ (t : Bool). not t || isNamed (blanked d masks) (d .count) j) t)
+      (λ t. rw t (named-by (blanked d masks) (d .count) j i h (ap (λ (k : Kind). names k j) (stays-kind d masks i b) ∙ e)))
+      (stays-survives d masks j)
 
   pub surviving : Surviving d masks (survives d masks)
   surviving =
@@ -199,9 +196,7 @@ module _ (d : Design) (masks : List ℕ) (least : Least d (outputSeed d) (maskAt
   survivors-least j h s =
       by-test (isBlank d masks j)
       (λ b.
-      named-only (blanked d masks) (d .count) j
-      (λ i g e. by-blank i g e)
-      (sym (ap (λ (t : Bool). not t || isNamed (blanked d masks) (d .count) j) b) ∙ s))
+      named-only (blanked d masks) (d .count) j (λ i g e. by-blank i g e) (rw b at s))
       (λ b. stays-in j h b)
     where
       by-blank : (i : ℕ) → i < d .count → names (blanked d masks .at i .kind) j ≡ true → set j ≡ true
