@@ -17,7 +17,7 @@ use Rattle.netlist.proofs.RoleLaws.{input-role}
 use Rattle.rules.specs.Check.{checkOf}
 use Rattle.rules.specs.declared.Checked.the-variants.{Accepted}
 use Rattle.care.specs.Least.{masksOf}
-use Rattle.clock.specs.Call.{wordIsWide, isWide, wordsAnswer, cycleWith, cycleCall}
+use Rattle.clock.specs.Call.{wordIsWide, isWide, cycleWith, cycleCall}
 use Rattle.clock.specs.Values.{unchanged, putWord, withInputs}
 use Rattle.clock.specs.declared.Clocked.the-variants.{Done}
 use Rattle.clock.proofs.CallLaws.{answer-fit, fit-both, words-clear, clear-words}

@@ -1,6 +1,6 @@
 -- A start and a cycle of a design, and those of its compacted design. The design with constants in the place of blanks stands between the two: it
 -- follows the old one, and the compacted one is a part of it. Assumes nothing.
-use mathlib.Core.Path.{_≡_, refl, sym, ap, subst, _∙_}
+use mathlib.Core.Path.{_≡_, sym, ap, subst, _∙_}
 use mathlib.Core.Bool.{Bool, true}
 use mathlib.Core.Logic.{_≢_, _⊎_, inl, inr}
 use mathlib.Core.List.{List}
@@ -12,33 +12,28 @@ use Rattle.endian.proofs.ListLaws.{length-words, word-at}
 use Rattle.bits.specs.Masks.{Agree}
 use Rattle.bits.proofs.Agreement.{agree-refl, agree-zero, agree-within}
 use Rattle.bits.proofs.Order.{meet-left}
-use Rattle.netlist.specs.Kinds.{isInput, isOutput, isHeld}
-use Rattle.netlist.specs.Layout.{Design, designOf, countOf, roleAt}
-use Rattle.netlist.specs.Picked.{picked, rankOf}
+use Rattle.netlist.specs.Kinds.{isInput, isOutput}
+use Rattle.netlist.specs.Layout.{Design, roleAt}
+use Rattle.netlist.specs.Picked.{rankOf}
 use Rattle.netlist.specs.declared.record.Role.{Role}
 use Rattle.netlist.specs.declared.record.Role.the-variants.{Register}
 use Rattle.netlist.proofs.PickedLaws.{picked-same, same-picked}
-use Rattle.netlist.proofs.RoleLaws.{newRole, output-role}
+use Rattle.netlist.proofs.RoleLaws.{output-role}
 use Rattle.rules.specs.Sound.{Sound}
 use Rattle.signal.specs.Asks.{demandOf}
 use Rattle.care.specs.Least.{Closed, outputSeed, maskAt}
 use Rattle.care.proofs.Families.{same-or-not}
-use Rattle.clock.specs.Call.{startCall, cycleCall}
 use Rattle.clock.specs.Values.{unchanged, putWord, withInputs, valuesOf, nextOf, startOf}
-use Rattle.clock.specs.declared.Clocked.the-variants.{Done}
 use Rattle.clock.proofs.InputLaws.{length-inputs, input-word}
-use Rattle.clock.proofs.Promises.{start-left, values-left, next-left, board-length}
 use Rattle.trim.specs.Trimmed.{trimDesign}
 use Rattle.compact.specs.Survivors.{withBlanks, blanked, survives}
 use Rattle.compact.proofs.PartLaws.{PartOf, part-below, role-part}
 use Rattle.compact.proofs.Ports.{inputs-picked, outputs-picked}
 use Rattle.compact.proofs.SurvivorLaws.{output-port, cared-survives, names-survive, surviving}
 use Rattle.agreement.specs.Compacted.{pinWords, outputWords}
-use Rattle.agreement.specs.Runs.{ofFile}
 use Rattle.agreement.specs.Scrambled.{plain, changeIn}
 use Rattle.agreement.proofs.Between.{Tied, tied-start, tied-next, held-agree}
 use Rattle.agreement.proofs.Follow.{follows-blanked}
-use Rattle.agreement.proofs.InStep.{InStep, runs-from-start}
 use Rattle.agreement.proofs.OneCycle.{AllClose, cycle-close}
 use Rattle.agreement.proofs.PartCycle.{put-new, start-part, values-part, next-part}
 use Rattle.agreement.proofs.ScrambleLaws.{gentle}

@@ -1,12 +1,10 @@
 -- The claim about runs of a file and of its compacted file, and that the compacted one accepts what the old one accepts.
 -- Assumes nothing.
-use mathlib.Core.Path.{_≡_, refl, sym, ap, subst, _∙_}
-use mathlib.Core.Bool.{Bool, true, false}
+use mathlib.Core.Path.{_≡_, sym, subst, _∙_}
 use mathlib.Core.List.{List}
-use Prim.Native.Nat.{ℕ, _<_}
-use native.Mathlib.Omega.{arith}
-use lib.ListN.{length, take}
-use Rattle.netlist.specs.Layout.{Design, designOf, countOf}
+use Prim.Native.Nat.{ℕ}
+use lib.ListN.{length}
+use Rattle.netlist.specs.Layout.{Design, designOf}
 use Rattle.rules.specs.Check.{checkOf}
 use Rattle.rules.specs.Sound.{Sound}
 use Rattle.rules.specs.declared.Checked.the-variants.{Accepted}
@@ -18,12 +16,11 @@ use Rattle.clock.specs.Values.{unchanged, withInputs}
 use Rattle.clock.specs.declared.Clocked.the-variants.{Done}
 use Rattle.clock.proofs.InputLaws.{length-inputs}
 use Rattle.clock.proofs.Promises.{start-left, values-left, next-left, board-length}
-use Rattle.compact.specs.Call.{compactCall}
 use Rattle.compact.specs.Part.{compacted}
 use Rattle.compact.proofs.Compacted.{blanked-sound, stands, holds-part}
-use Rattle.compact.proofs.Promises.{Accepts, accepts, front-compacted}
+use Rattle.compact.proofs.Promises.{accepts, front-compacted}
 use Rattle.agreement.specs.Compacted.{pinWords, outputWords, FromReset, EqualPins, EqualOutputs, CompactedRuns}
-use Rattle.agreement.specs.Runs.{ofFile, runOf, kindsOf, EachCycle}
+use Rattle.agreement.specs.Runs.{ofFile, runOf}
 use Rattle.agreement.proofs.CompactedCycle.{TiedAtNew, starts-at-new, outputs-same, next-at-new}
 use Rattle.agreement.proofs.InStep.{InStep, runs-from-start}
 
@@ -70,9 +67,9 @@ module _ (file : List ℕ) (n : ℕ) (a : checkOf file ≡ Accepted n) where
         let b = blanked-sound d sound masks in
         let p = holds-part file n a in (
           rw (values-left unchanged file (withInputs d words board) next s, values-left unchanged (compacted file) (withInputs e words′ board′) next′ s′)
-          (outputs-same d sound masks c b e sound′ p words words′ board board′ size size′ tied pins),
+              (outputs-same d sound masks c b e sound′ p words words′ board board′ size size′ tied pins),
           rw (next-left unchanged file (withInputs d words board) next s, next-left unchanged (compacted file) (withInputs e words′ board′) next′ s′)
-          (next-at-new d sound masks c b e sound′ p words words′ board board′ size size′ tied pins),
+              (next-at-new d sound masks c b e sound′ p words words′ board board′ size size′ tied pins),
         )
 
   pub compacted-in-step : InStep (ofFile (λ j. unchanged) file) (ofFile (λ j. unchanged) (compacted file)) (TiedAtNew (designOf file) (masksOf (designOf file)))

@@ -25,7 +25,7 @@ use Rattle.rules.specs.Sound.{Sound}
 use Rattle.rules.proofs.SoundLaws.{Nameable, names-each, register-loads}
 use Rattle.signal.specs.Results.{resultAt}
 use Rattle.signal.proofs.ResultLaws.{names-below, result-renumbered}
-use Rattle.clock.specs.Values.{unchanged, putWord, valueAt, valuesOf, nextWord, nextOf, startWord, startOf}
+use Rattle.clock.specs.Values.{unchanged, putWord, valuesOf, nextWord, nextOf, startWord, startOf}
 use Rattle.clock.proofs.StateLaws.{start-word, next-word}
 use Rattle.clock.proofs.ValueLaws.{length-values, value-defined}
 use Rattle.compact.proofs.PartLaws.{PartOf, part-below, width-part, kind-part, role-part, NamesInside}

@@ -1,8 +1,7 @@
 -- Constants in the place of records: what the records are then, and that a sound design stays sound where no output gives way to one.
 -- Assumes nothing.
-use mathlib.Core.Path.{_≡_, refl, sym, ap, subst, _∙_}
+use mathlib.Core.Path.{_≡_, sym, ap, subst, _∙_}
 use mathlib.Core.Bool.{Bool, true, false, cond}
-use mathlib.Core.List.{List}
 use Prim.Native.Nat.{ℕ, _^_, _≤_, _<_}
 use lib.Pow.{pow-pos}
 use Rattle.netlist.specs.Kinds.{usesOf, operandsOf, widthRules, isOutput}

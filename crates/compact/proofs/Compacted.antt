@@ -1,17 +1,15 @@
 -- The compacted design: it is sound, what each of its records is, and that its file is accepted, holds it, and is no longer than the old one.
 -- Assumes nothing.
-use mathlib.Core.Path.{_≡_, refl, ap, _∙_}
+use mathlib.Core.Path.{_≡_, ap, _∙_}
 use mathlib.Core.Bool.{true, false}
 use mathlib.Core.List.{List}
 use Prim.Native.Nat.{ℕ, _≤_, _<_}
 use native.Mathlib.Omega.{arith}
 use lib.ListN.{length}
 use Rattle.netlist.specs.Kinds.{kindOf, renumbered}
-use Rattle.netlist.specs.Layout.{Design, designOf, countOf, recordStart, roleAt}
-use Rattle.netlist.specs.Picked.{rankOf}
-use Rattle.netlist.specs.declared.record.Record.{Record}
+use Rattle.netlist.specs.Layout.{Design, designOf, recordStart, roleAt}
 use Rattle.rules.specs.Check.{checkOf}
-use Rattle.rules.specs.Encode.{encode, StandsFor}
+use Rattle.rules.specs.Encode.{StandsFor}
 use Rattle.rules.specs.Sound.{Sound}
 use Rattle.rules.specs.declared.Checked.the-variants.{Accepted}
 use Rattle.rules.proofs.Acceptance.{accepted}

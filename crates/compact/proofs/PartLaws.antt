@@ -1,16 +1,14 @@
 -- The part of a design that a test picks: what each of its records is, and that it is sound where it has all that its records name.
 -- Assumes nothing.
 use mathlib.Core.Path.{_≡_, refl, sym, ap, subst, _∙_}
-use mathlib.Core.Bool.{Bool, true, false}
-use mathlib.Core.List.{List, map}
+use mathlib.Core.Bool.{Bool, true}
 use Prim.Native.Nat.{ℕ, _^_, _≤_, _<_}
 use native.Mathlib.Omega.{arith}
-use Rattle.netlist.specs.Kinds.{usesOf, operandsOf, widthRules, isOutput, renumbered, isMultiplier}
+use Rattle.netlist.specs.Kinds.{usesOf, operandsOf, isOutput, renumbered}
 use Rattle.netlist.specs.Layout.{Design, roleAt}
 use Rattle.netlist.specs.Limits.{maxWidth}
 use Rattle.netlist.specs.Picked.{rankOf}
-use Rattle.netlist.specs.Rules.{Rule, AllHold}
-use Rattle.netlist.specs.declared.record.Kind.{Kind}
+use Rattle.netlist.specs.Rules.{AllHold}
 use Rattle.netlist.specs.declared.record.Record.{Record}
 use Rattle.netlist.specs.declared.record.Role.{Role}
 use Rattle.netlist.specs.declared.record.Role.the-variants.{Input, Register, Output, Gate}

@@ -1,12 +1,12 @@
 -- What a call of compact comes to, in the paper's words: when it is accepted, what it answers, the file that it leaves in the front of its destination,
 -- and that nothing else changes. Assumes nothing.
-use mathlib.Core.Path.{_≡_, refl, sym, ap, subst, _∙_}
+use mathlib.Core.Path.{_≡_, refl, sym, ap, _∙_}
 use mathlib.Core.Bool.{true, false}
-use mathlib.Core.List.{List, _++_}
+use mathlib.Core.List.{List}
 use mathlib.Core.Logic.{_⊎_, inl, inr, _≢_}
-use Prim.Native.Nat.{ℕ, _+_, _≤_, _<_}
+use Prim.Native.Nat.{ℕ, _≤_, _<_}
 use native.Mathlib.Omega.{arith}
-use lib.ListN.{length, take, drop}
+use lib.ListN.{length, take}
 use lib.Seq.{sets, sets-eq, length-sets, take-at}
 use Rattle.endian.proofs.Stores.{stored-outside}
 use Rattle.netlist.specs.Layout.{Design, designOf, byteAt, recordAt, recordStart}

@@ -4,7 +4,6 @@ use mathlib.Core.Path.{_≡_, refl, sym, ap, subst, _∙_}
 use mathlib.Core.Bool.{Bool, true, false, cond, not, _&&_, _||_}
 use mathlib.Core.List.{List, [], _∷_}
 use Prim.Native.Nat.{ℕ, _<_}
-use native.Mathlib.Nat.{not-suc-le-zero}
 use native.Mathlib.Omega.{arith}
 use lib.Dec.{eqb}
 use borrow.Author.Tests.{eqb-true, eq-eqb}
@@ -12,21 +11,19 @@ use Rattle.bits.specs.Masks.{Within}
 use Rattle.bits.proofs.Order.{within-zero, within-le}
 use Rattle.netlist.specs.Kinds.{usesOf, operandsOf, isInput, isOutput, names}
 use Rattle.netlist.specs.Layout.{Design, roleAt}
-use Rattle.netlist.specs.Lowest.{lowest}
 use Rattle.netlist.specs.declared.record.Kind.{Kind}
 use Rattle.netlist.specs.declared.record.Record.{Record}
 use Rattle.netlist.specs.declared.record.Role.{Role}
 use Rattle.netlist.specs.declared.record.Role.the-variants.{Gate}
 use Rattle.netlist.proofs.LowestLaws.{not-both, lowest-cases}
-use Rattle.netlist.proofs.OperandLists.{Each, each-more, each-in, in-each}
+use Rattle.netlist.proofs.OperandLists.{Each, each-more, each-in}
 use Rattle.netlist.proofs.Tests.{by-test}
-use Rattle.rules.specs.Sound.{Sound}
 use Rattle.signal.specs.Asks.{demandOf, asked, Granted}
 use Rattle.signal.specs.AskLists.{AskedOf}
 use Rattle.signal.specs.declared.Ask.{Ask}
 use Rattle.signal.proofs.AskedNothing.{asked-none}
 use Rattle.signal.proofs.AskedOperands.{asked-each}
-use Rattle.care.specs.Least.{Closed, Least, outputSeed, maskAt}
+use Rattle.care.specs.Least.{Least, outputSeed, maskAt}
 use Rattle.trim.specs.Trimmed.{trimDesign}
 use Rattle.compact.specs.Survivors.{isPort, isBlank, blank, withBlanks, blanked, Surviving, Survivors, isNamed, survives}
 use Rattle.compact.proofs.BlankLaws.{blank-here, none-here}

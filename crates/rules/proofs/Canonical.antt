@@ -14,7 +14,7 @@ use Rattle.netlist.specs.Layout.{designOf, recordAt, codeAt, widthAt, fieldsAt,
 use Rattle.netlist.proofs.KindLaws.{code-back}
 use Rattle.rules.specs.Fit.{fieldRules}
 use Rattle.rules.specs.Check.{checkOf, headerRules, recordRules}
-use Rattle.rules.specs.Encode.{encode, encodeFrom, encodeRecord, AreBytes}
+use Rattle.rules.specs.Encode.{headerBytes, encode, encodeFrom, encodeRecord, AreBytes}
 use Rattle.rules.specs.declared.Checked.the-variants.{Accepted}
 use Rattle.rules.proofs.Acceptance.{accepted, accepted-kept, rule-facts}
 use Rattle.rules.proofs.CheckLaws.{Kept}
@@ -86,7 +86,7 @@ module _ (file : List ℕ) where
       (moved (let e = length-record (recordAt file i) in omega arith) (stands-from b left (suc i) (λ j h g. kept j (omega arith) (omega arith))))
 
   -- the header, with the version and the count as numbers
-  stands-header : AreBytes file → Kept (headerRules file) → Stands file 0 ((0x50 ∷ 0x43 ∷ 0x4e ∷ bytes 2 1) ++ (0 ∷ bytes 2 (countOf file)))
+  stands-header : AreBytes file → Kept (headerRules file) → Stands file 0 (headerBytes (countOf file))
   unfolding headerRules
   stands-header b kept =
       let mark = kept .1 .0 in
@@ -101,8 +101,7 @@ pub canonical : (file : List ℕ) (n : ℕ) → AreBytes file → checkOf file �
 unfolding encode designOf
 canonical file n b e =
     let kept = accepted-kept file n e in
-    let header = (0x50 ∷ 0x43 ∷ 0x4e ∷ bytes 2 1) ++ (0 ∷ bytes 2 (countOf file)) in
-    let stands = stands-append file 0 header (encodeFrom (designOf file) (countOf file) 0) (stands-header file b (kept .header))
+    let stands = stands-append file 0 (headerBytes (countOf file)) (encodeFrom (designOf file) (countOf file) 0) (stands-header file b (kept .header))
     (stands-from file b (countOf file) 0 (λ j h g. kept .each j (omega arith))) in
     let facts = accepted file n e in
     let size : length file ≡ length (encode (designOf file)) = facts .size ∙ ap recordStart (facts .count) ∙ sym (length-encode (designOf file)) in

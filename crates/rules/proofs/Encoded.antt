@@ -15,7 +15,7 @@ use Rattle.netlist.specs.declared.record.Kind.{Kind}
 use Rattle.netlist.proofs.KindLaws.{usedFields, kind-back, code-low}
 use Rattle.rules.specs.Fit.{fieldRules}
 use Rattle.rules.specs.Check.{checkOf, headerRules, recordRules}
-use Rattle.rules.specs.Encode.{encode, encodeFrom, encodeRecord, AreBytes, StandsFor}
+use Rattle.rules.specs.Encode.{headerBytes, encode, encodeFrom, encodeRecord, AreBytes, StandsFor}
 use Rattle.rules.specs.Sound.{Sound, SameDesign}
 use Rattle.rules.specs.declared.Checked.the-variants.{Accepted}
 use Rattle.rules.proofs.Acceptance.{kept-accepted, facts-rules}
@@ -128,7 +128,7 @@ module _ (d : Design) (s : Sound d) where
   unfolding encode
   encoded =
       record {
-        bytes = bytes-append (0x50 ∷ 0x43 ∷ 0x4e ∷ bytes 2 1 ++ (0 ∷ bytes 2 (d .count))) (encodeFrom d (d .count) 0)
+        bytes = bytes-append (headerBytes (d .count)) (encodeFrom d (d .count) 0)
             (byte-first (lit< tt) (byte-first (lit< tt) (byte-first (lit< tt)
             (bytes-append (bytes 2 1) (0 ∷ bytes 2 (d .count)) (number-bytes 2 1) (byte-first (lit< tt) (number-bytes 2 (d .count)))))))
             (from-bytes (d .count) 0 (omega arith));

@@ -22,9 +22,13 @@ unfoldable pub encodeFrom : Design → ℕ → ℕ → List ℕ
 encodeFrom d zero i = []
 encodeFrom d (suc left) i = encodeRecord (d .at i) ++ encodeFrom d left (suc i)
 
--- The file that a design makes: mark, version 1, a zero byte, the count, the records.
+-- The header of a file with so many records: mark, version 1, a zero byte, the count.
+abbrev pub headerBytes : ℕ → List ℕ
+headerBytes count = (0x50 ∷ 0x43 ∷ 0x4e ∷ bytes 2 1) ++ (0 ∷ bytes 2 count)
+
+-- The file that a design makes: the header and the records.
 unfoldable pub encode : Design → List ℕ
-encode d = (0x50 ∷ 0x43 ∷ 0x4e ∷ bytes 2 1) ++ (0 ∷ bytes 2 (d .count)) ++ encodeFrom d (d .count) 0
+encode d = headerBytes (d .count) ++ encodeFrom d (d .count) 0
 
 -- Every element of a list is a byte.
 pub record AreBytes (l : List ℕ) : Type 0 where
