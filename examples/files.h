@@ -18,7 +18,7 @@ enum { HEADER = 8, RECORD = 24, KIND = 0, WIDTH = 1, KEEP = 16, MOST = 2048 };
 /* The status that a program ends with. */
 enum { DONE = 0, REFUSED = 1, TROUBLE = 2 };
 
-/* For every number that check, masks, trim and trim_by give. */
+/* For every number that check, masks, trim, trim_by and compact give. */
 static const char *const reasons[] = {
     [PCN_TOO_SHORT] = "the file is shorter than its header",
     [PCN_BAD_MARK] = "the file does not begin as a netlist file does",

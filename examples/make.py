@@ -1,5 +1,5 @@
 """Writes the sample netlists of this folder: make.py [FOLDER].
-Assumes nothing but Python. The text beside each file is what masks prints."""
+Assumes Python, and beside each file the text that masks prints for it."""
 
 import pathlib
 import struct
@@ -8,6 +8,11 @@ import sys
 (INPUT, CONSTANT, REGISTER, OUTPUT, EXTRACT, CONCAT, AND, OR, XOR, MUX, ADD,
  SUB, MUL, EQUAL, BELOW, LEFT_SHIFT, RIGHT_SHIFT, ARITHMETIC_SHIFT,
  SIGNED_BELOW) = range(19)
+HERE = pathlib.Path(__file__).parent
+
+# How many records each kind reads, where they are not two.
+OPERANDS = {INPUT: 0, CONSTANT: 0, MUX: 3, **dict.fromkeys(
+    (REGISTER, OUTPUT, EXTRACT, LEFT_SHIFT, RIGHT_SHIFT, ARITHMETIC_SHIFT), 1)}
 
 
 class Design:
@@ -25,6 +30,11 @@ class Design:
 
     def width(self, signal):
         return self.records[signal][1]
+
+    def operands(self, signal):
+        """The numbers of the records that it reads."""
+        kind, _, *named, _, _ = self.records[signal]
+        return named[:OPERANDS.get(kind, 2)]
 
     def input(self, width):
         return self.record(INPUT, width)
@@ -172,6 +182,27 @@ def status_word():
     return d
 
 
+def service_card():
+    """A pump's card as all sites get it. The highest pressure so far was read
+    in commissioning, and is by nobody now. Starts of the pump are counted,
+    and a pattern says which bits of the count are shown: here it is 0, so no
+    bit is cared for, but the count is still named."""
+    d = Design()
+    pressure = d.input(12)
+    pump = d.input(1)
+    highest = d.register(12)
+    d.load(highest, d.mux(d.below(highest, pressure), pressure, highest))
+    last = d.register(1)
+    d.load(last, pump)
+    starts = d.register(8)
+    following = d.gate(ADD, starts, d.constant(8, 1))
+    d.load(starts, d.mux(d.below(last, pump), following, starts))
+    shown = d.gate(AND, starts, d.constant(8, 0))
+    alarm = d.below(d.constant(12, 3200), pressure)
+    d.output(d.concat(shown, d.gate(AND, alarm, pump)))
+    return d
+
+
 def extended(d, signal, width):
     """The signal, two's complement, in more bits."""
     more = width - d.width(signal)
@@ -316,6 +347,30 @@ def pitch_card():
     return d
 
 
+def masks_of(name):
+    _, *lines = (HERE / f"{name}.txt").read_text().splitlines()
+    return [int(line.split()[2], 16) for line in lines]
+
+
+def compacted(before, masks):
+    """The design without the records that no output needs. Whoever has a mask
+    that is not 0 is named by another such record, or is an output."""
+    ends = {number for number, record in enumerate(before.records)
+            if record[0] in (INPUT, OUTPUT)}
+    alive = ends | {number for number, mask in enumerate(masks) if mask}
+    survivors = sorted(ends.union(*map(before.operands, alive)))
+    new = {old: number for number, old in enumerate(survivors)}
+    after = Design()
+    for old in survivors:
+        kind, width, *_, k, keep = before.records[old]
+        if old in alive:
+            named = [new[operand] for operand in before.operands(old)]
+            after.record(kind, width, *named, k=k, keep=keep & masks[old])
+        else:
+            after.record(CONSTANT, width, keep=0)
+    return after
+
+
 DESIGNS = {
     "ramp": ramp(0, 16),
     "ramp-high": ramp(8, 8),
@@ -325,13 +380,17 @@ DESIGNS = {
     "register-ring": register_ring(),
     "signed-angle": signed_angle(),
     "status-word": status_word(),
+    "service-card": service_card(),
     "pitch-card": pitch_card(),
 }
 
+# The cards come compacted as well.
+DESIGNS.update({f"{name}-compact": compacted(DESIGNS[name], masks_of(name))
+                for name in ("service-card", "pitch-card")})
+
 
 def main():
-    folder = pathlib.Path(sys.argv[1] if len(sys.argv) > 1
-                          else pathlib.Path(__file__).parent)
+    folder = pathlib.Path(sys.argv[1]) if len(sys.argv) > 1 else HERE
     for name, design in DESIGNS.items():
         (folder / f"{name}.pcn").write_bytes(design.file())
 

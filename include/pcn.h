@@ -120,8 +120,8 @@ enum pcn_refusal {
    destinations that are not `const`, allocate nothing and keep no state
    between calls, so several threads may call them at the same time, also for
    the same file, each with lists and a destination of its own. A refused call
-   changes nothing at all. pcn_masks and pcn_trim take less than 17,000 bytes
-   of the stack. */
+   changes nothing at all. pcn_masks, pcn_trim and pcn_compact take less than
+   17,000 bytes of the stack. */
 
 /* Checks a netlist file. Accepted: the answer is the count of records. */
 uint64_t pcn_check(const uint8_t *file, size_t length);
@@ -166,6 +166,37 @@ uint64_t pcn_trim(const uint8_t *file, size_t length, uint8_t *masks,
    in the old one and in the mask of the list. pcn_check accepts the file in
    the destination. With the masks of pcn_masks, it is the file of pcn_trim. */
 uint64_t pcn_trim_by(const uint8_t *file, size_t length, const uint64_t *masks,
+                     size_t masks_words, uint8_t *destination,
+                     size_t destination_length);
+
+/* Writes a compacted file, in which records that no output needs are left out.
+
+   Inputs and outputs survive. Any other survivor with mask 0 becomes a
+   constant of its width that is 0: its k and its keep word are 0, and it
+   names no record. Whatever the other survivors name survives too, and
+   nothing else does. So an output keeps the record that it names even if its
+   own keep word is 0.
+
+   Survivors stay in their order and are numbered anew, from 0 on, also where
+   they name each other. Those that do not become constants are otherwise as
+   they were, with the keep words of pcn_trim: the bits that are both in the
+   old one and in the mask.
+
+   Refused as pcn_check refuses the file, then by 11 when the mask list has
+   another count of words than the file of records, and then by 13: there must
+   be room for the file as it was. Accepted: the answer is the length of the
+   new file, 8 bytes and 24 for each survivor, and never more than that of the
+   old one. All words of the mask list are written, with the masks of
+   pcn_masks. The new file is in the first bytes of the destination, as many as
+   the answer says; the bytes behind them stay as they were. pcn_check accepts
+   the new file.
+
+   From reset, the new file does what the old one does: if both are started by
+   pcn_start and clocked by pcn_cycle, with equal words at the pins in each
+   cycle, then the values at the outputs are equal in each cycle. Pins and
+   outputs go together in record order: the first input of one file with the
+   first of the other, the second with the second, and so on. */
+uint64_t pcn_compact(const uint8_t *file, size_t length, uint64_t *masks,
                      size_t masks_words, uint8_t *destination,
                      size_t destination_length);
 

@@ -27,6 +27,12 @@ static uint64_t trim_by_in_c(const struct lent *lent)
                          BYTES_OF(lent, 2));
 }
 
+static uint64_t compact_in_c(const struct lent *lent)
+{
+    return plain_compact(BYTES_OF(lent, 0), WORDS_OF(lent, 1),
+                         BYTES_OF(lent, 2));
+}
+
 static uint64_t start_in_c(const struct lent *lent)
 {
     return plain_start(BYTES_OF(lent, 0), WORDS_OF(lent, 1));
@@ -63,6 +69,12 @@ static const struct row rows[] = {
       trim_by_in_c, combinational_smallest, { 64, 256, 1024, 2048 } },
     { "trim_by, combinational, all bits", &trim_by_operation, trim_by_in_c,
       combinational_all_bits, { 64, 256, 1024, 2048 } },
+    { "compact, feedback", &compact_operation, compact_in_c, feedback,
+      { 64, 256, 1024, 2048 } },
+    { "compact, combinational", &compact_operation, compact_in_c,
+      combinational, { 64, 256, 1024, 2048 } },
+    { "compact, words cut with constants", &compact_operation, compact_in_c,
+      cut_words, { 64, 256, 1024, 2048 } },
     { "cycle, no multipliers", &cycle_operation, cycle_in_c, clocked,
       { 64, 256, 1024, 2048 } },
     { "cycle, all kinds", &cycle_operation, cycle_in_c, clocked_with_mul,

@@ -24,6 +24,10 @@ uint64_t plain_trim_by(const uint8_t *file, size_t length,
 uint32_t list_fault(const uint8_t *file, uint32_t count,
                     const uint64_t *masks);
 
+uint64_t plain_compact(const uint8_t *file, size_t length, uint64_t *masks,
+                       size_t masks_words, uint8_t *destination,
+                       size_t destination_length);
+
 uint64_t plain_start(const uint8_t *file, size_t length, uint64_t *board,
                      size_t board_words);
 

@@ -44,7 +44,11 @@ enum {
                       /* for and and or: which of them, which of a and b are
                          constants, ones of their k and of their values among
                          the bits of D */
-    CASES = CUT + CUTS * READ_CONSTANTS * AMOUNTS * AMOUNTS
+    EMPTIED = CUT + CUTS * READ_CONSTANTS * AMOUNTS * AMOUNTS,
+                      /* kind of a record with a mask that is not 0, which
+                         operand, kind of that operand, which becomes a
+                         constant when the file is compacted */
+    CASES = EMPTIED + KIND_COUNT * 3 * KIND_COUNT
 };
 
 static uint8_t cases[CASES]
@@ -57,6 +61,8 @@ static struct {
     unsigned long cleared;
     unsigned long cycles;
     unsigned long differed;
+    unsigned long shorter;
+    unsigned long emptied;
     unsigned long refused[REFUSALS];
     unsigned long kinds[KIND_COUNT];
 } counts;
@@ -76,6 +82,8 @@ static void write_counts(void)
     fprintf(out, "cleared %lu\n", counts.cleared);
     fprintf(out, "cycles %lu\n", counts.cycles);
     fprintf(out, "differed %lu\n", counts.differed);
+    fprintf(out, "shorter %lu\n", counts.shorter);
+    fprintf(out, "emptied %lu\n", counts.emptied);
     for (i = 0; i < OPERATIONS; i++)
         possible |= operations[i]->refusals;
     for (i = 1; i < REFUSALS; i++)
@@ -265,6 +273,41 @@ void seen_masks(const uint8_t *file, const uint64_t *masks, int cleared)
 
         note_record(file, &record, masks[i]);
     }
+}
+
+/* Notes each operand that becomes a constant, of a record that does not; true
+   if there is one. */
+static int note_emptied(const uint8_t *file, const struct record *record,
+                        const uint64_t *masks)
+{
+    int found = 0;
+    unsigned i;
+
+    for (i = 0; i < kind_operands(record->kind); i++) {
+        uint32_t operand = record->operand[i];
+
+        if (masks[operand] != 0 || kind_at(file, operand) == KIND_INPUT)
+            continue;
+        cases[EMPTIED + (record->kind * 3u + i) * KIND_COUNT
+              + kind_at(file, operand)] = 1;
+        found = 1;
+    }
+    return found;
+}
+
+void seen_compacted(const uint8_t *file, const uint64_t *masks, int shorter)
+{
+    uint32_t count = read_16(file + 6), i;
+    int found = 0;
+
+    for (i = 0; i < count; i++) {
+        struct record record = read_record(file, i);
+
+        if (masks[i] != 0)
+            found |= note_emptied(file, &record, masks);
+    }
+    counts.shorter += (unsigned long)shorter;
+    counts.emptied += (unsigned long)found;
 }
 
 void seen_values(const uint8_t *file, const uint64_t *values, int differed)

@@ -26,6 +26,10 @@ void seen_refused(const uint8_t *file, uint64_t answer);
 /* The masks of an accepted file, and whether trimming it clears a bit. */
 void seen_masks(const uint8_t *file, const uint64_t *masks, int cleared);
 
+/* The masks of an accepted file that was compacted, and whether it has become
+   shorter. */
+void seen_compacted(const uint8_t *file, const uint64_t *masks, int shorter);
+
 /* The values of an accepted cycle, and whether some value of the run beside it
    was another. */
 void seen_values(const uint8_t *file, const uint64_t *values, int differed);

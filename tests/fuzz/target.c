@@ -4,6 +4,7 @@
 #include <string.h>
 
 #include "../harness/options.h"
+#include "compacted.h"
 #include "each.h"
 #include "fuzzer.h"
 #include "runs.h"
@@ -44,5 +45,6 @@ int LLVMFuzzerTestOneInput(const uint8_t *input, size_t size)
     seen_input();
     try_each(&subject);
     try_runs(&subject);
+    try_compacted(&subject);
     return 0;
 }

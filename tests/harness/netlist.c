@@ -103,23 +103,6 @@ uint64_t netlist_settled(const struct netlist *net, uint32_t number)
                                    : ~value & width_mask(record->width);
 }
 
-void write_16(uint8_t *bytes, uint32_t number)
-{
-    bytes[0] = (uint8_t)number;
-    bytes[1] = (uint8_t)(number >> 8);
-}
-
-static void write_record(uint8_t *bytes, const struct record *record)
-{
-    bytes[0] = record->kind;
-    bytes[1] = record->width;
-    write_16(bytes + 2, record->operand[0]);
-    write_16(bytes + 4, record->operand[1]);
-    write_16(bytes + 6, record->operand[2]);
-    write_64(bytes + 8, record->k);
-    write_64(bytes + 16, record->keep);
-}
-
 void netlist_write(const struct netlist *net, struct file *file)
 {
     uint32_t i;

@@ -61,6 +61,4 @@ uint64_t netlist_settled(const struct netlist *net, uint32_t number);
 
 void netlist_write(const struct netlist *net, struct file *file);
 
-void write_16(uint8_t *bytes, uint32_t number);
-
 #endif

@@ -36,7 +36,8 @@ typedef uint64_t function(const struct lent *lent);
 
 /* What a parameter is. Words are aligned as C aligns them; bytes may begin
    anywhere. What is read is never written. What is written may hold anything
-   before an accepted call; what is changed is read first. */
+   before an accepted call, which need not write all of it; what is changed is
+   read first. */
 enum { MEMORY = 1, WORDS = 2, READ = 4, WRITTEN = 8 };
 
 enum sort {

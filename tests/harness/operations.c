@@ -25,6 +25,7 @@ BOTH(check, (BYTES_OF(lent, 0)))
 BOTH(masks, (BYTES_OF(lent, 0), BYTES_OF(lent, 1)))
 BOTH(trim, (BYTES_OF(lent, 0), BYTES_OF(lent, 1), BYTES_OF(lent, 2)))
 BOTH(trim_by, (BYTES_OF(lent, 0), WORDS_OF(lent, 1), BYTES_OF(lent, 2)))
+BOTH(compact, (BYTES_OF(lent, 0), WORDS_OF(lent, 1), BYTES_OF(lent, 2)))
 BOTH(start, (BYTES_OF(lent, 0), WORDS_OF(lent, 1)))
 BOTH(cycle, (BYTES_OF(lent, 0), WORDS_OF(lent, 1), WORDS_OF(lent, 2)))
 
@@ -58,6 +59,14 @@ const struct operation trim_by_operation = {
     judge_trim_by, judge_list
 };
 
+const struct operation compact_operation = {
+    "compact", library_compact, plain_compact,
+    { { "file", A_FILE, 0, 0, 0 },
+      { "mask list", WRITTEN_WORDS, WORD_A_RECORD, 0, 11 },
+      { "destination", WRITTEN_BYTES, LENGTH_OF_FILE, 0, 13 } },
+    REFUSALS_TO(11) | REFUSAL(13), NULL, NULL, judge_compact, NULL
+};
+
 const struct operation start_operation = {
     "start", library_start, plain_start,
     { { "file", A_FILE, 0, 0, 0 },
@@ -75,5 +84,5 @@ const struct operation cycle_operation = {
 
 const struct operation *const operations[OPERATIONS] = {
     &check_operation, &masks_operation, &trim_operation, &trim_by_operation,
-    &start_operation, &cycle_operation
+    &compact_operation, &start_operation, &cycle_operation
 };

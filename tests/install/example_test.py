@@ -3,6 +3,7 @@ Assumes gcc, valgrind, and PYTHONPATH and the tools in BUILD as in tests/run."""
 
 import sys
 
+import compact_tests
 import cut_tests
 import keep_tests
 from counting import Counting, arguments
@@ -54,6 +55,7 @@ class Tests(Counting):
         self.folder = emptied(build / "example files")
         self.cut = Builds("cut", build)
         self.keep = Builds("keep", build)
+        self.compact = Builds("compact", build)
         self.examples = sorted((root / "examples").glob("*.pcn"))
         self.ramp_path = root / "examples" / "ramp.pcn"
         self.ramp = self.ramp_path.read_bytes()
@@ -74,7 +76,7 @@ class Tests(Counting):
 def builds(tests):
     before = tests.build / "no_memory.h"
     before.write_text(NO_MEMORY)
-    for example in (tests.cut, tests.keep):
+    for example in (tests.cut, tests.keep, tests.compact):
         for command, how, flags in (
                 (example.plain, "without a warning", ["-O2"]),
                 (example.sanitized, "with the sanitizers", SANITIZE),
@@ -90,4 +92,5 @@ def builds(tests):
 
 if __name__ == "__main__":
     sys.exit(Tests(*arguments()).all(builds, *cut_tests.PARTS,
-                                     *keep_tests.PARTS))
+                                     *keep_tests.PARTS,
+                                     *compact_tests.PARTS))

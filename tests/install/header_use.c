@@ -20,6 +20,16 @@ long uncared_bits(const uint8_t *file, size_t length, uint64_t *masks,
     return (long)PCN_TALLY_WIDTH(answer) - (long)PCN_TALLY_ONES(answer);
 }
 
+/* The count of records that compacting saves, or -1 when it is refused. */
+long records_saved(const uint8_t *file, size_t length, uint64_t *masks,
+                   size_t records, uint8_t *destination)
+{
+    uint64_t answer = pcn_compact(file, length, masks, records, destination,
+                                  length);
+
+    return PCN_REFUSED(answer) ? -1 : (long)((length - answer) / 24);
+}
+
 /* Two cycles after a start with this word at record 0; the record whose width
    or word is refused, or -1. */
 int refused_record(const uint8_t *file, size_t length, uint64_t *board,

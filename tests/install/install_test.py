@@ -8,6 +8,7 @@ import stat
 import sys
 import tempfile
 
+from compact_reading import Reading as Compacted
 from counting import Counting, arguments
 from cut_reading import Reading
 from keep_reading import Reading as Kept
@@ -97,10 +98,10 @@ def used(tests):
     work = tests.folder / "work"
     work.mkdir()
     ramp = tests.root / "examples" / "ramp.pcn"
-    right = Reading(tests.program).of(ramp.read_bytes())
+    data = ramp.read_bytes()
     linked = f"-L{tests.prefix / 'lib'}", "-lpcn", "-o"
     tests.expect(ramp.with_suffix(".txt").read_text(),
-                 tests.prefix / "bin" / "masks", data=ramp.read_bytes())
+                 tests.prefix / "bin" / "masks", data=data)
     tests.end("the installed program runs")
 
     (work / "main.c").write_text("int main(void) { return 0; }\n")
@@ -108,20 +109,20 @@ def used(tests):
                  work / "main.c", *linked, work / "all")
     tests.end("the installed library has every function")
 
-    for name in ("cut.c", "keep.c", "files.h"):
+    for name in ("cut.c", "keep.c", "compact.c", "files.h"):
         shutil.copy(tests.root / "examples" / name, work)
-    for name, text in (("cut", right.text),
-                       ("keep", Kept(tests.program, ramp.read_bytes(),
-                                     {}).text)):
+    for name, right in (("cut", Reading(tests.program).of(data)),
+                        ("keep", Kept(tests.program, data, {})),
+                        ("compact", Compacted(tests.program).of(data))):
         tests.expect("", "gcc", *STRICT, f"-I{tests.prefix / 'include'}",
                      work / f"{name}.c", *linked, work / name)
         if not (work / name).exists():
             continue
-        tests.expect(text, work / name, ramp, work / "trimmed.pcn")
+        tests.expect(right.text, work / name, ramp, work / "trimmed.pcn")
         if (work / "trimmed.pcn").read_bytes() != right.trimmed:
             tests.fault(f"{name}: another trimmed file")
         (work / "trimmed.pcn").unlink()
-    tests.end("two C programs use the installed header and library")
+    tests.end("three C programs use the installed header and library")
 
 
 def uninstalled(tests):

@@ -221,19 +221,33 @@ uint64_t tally_of(const uint8_t *file, const uint64_t *list)
     return tally;
 }
 
-/* A mask that is not the least one, or a tally that is not the count. */
-const char *judge_masks(const struct lent *before, const struct lent *after,
-                        uint64_t answer)
+const char *least_fault(const uint8_t *file, const uint64_t *list)
 {
-    const uint8_t *file = before->of[0].bytes, *list = after->of[1].bytes;
     static uint64_t least[COUNT_LIMIT];
     uint32_t count = read_16(file + 6), i;
 
     memset(least, 0, 8 * (size_t)count);
     close_list(file, least);
     for (i = 0; i < count; i++)
-        if (read_64(list + 8 * (size_t)i) != least[i])
+        if (list[i] != least[i])
             return "a mask is not what the care rules ask for";
-    return answer == tally_of(file, least) ? NULL
-        : "the tally does not count widths and ones";
+    return NULL;
+}
+
+/* A mask that is not the least one, or a tally that is not the count. The
+   list is passed as bytes and may begin anywhere. */
+const char *judge_masks(const struct lent *before, const struct lent *after,
+                        uint64_t answer)
+{
+    const uint8_t *file = before->of[0].bytes, *bytes = after->of[1].bytes;
+    static uint64_t list[COUNT_LIMIT];
+    uint32_t count = read_16(file + 6), i;
+    const char *fault;
+
+    for (i = 0; i < count; i++)
+        list[i] = read_64(bytes + 8 * (size_t)i);
+    fault = least_fault(file, list);
+    if (fault == NULL && answer != tally_of(file, list))
+        fault = "the tally does not count widths and ones";
+    return fault;
 }

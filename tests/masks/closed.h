@@ -13,6 +13,9 @@ uint32_t lowest_fault(const uint8_t *file, const uint64_t *list);
 /* Adds what the rules call for, until they call for nothing more. */
 void close_list(const uint8_t *file, uint64_t *list);
 
+/* What is wrong with the list unless it has the least masks, or null. */
+const char *least_fault(const uint8_t *file, const uint64_t *list);
+
 /* The sum of all widths, in the high half, and the count of ones. */
 uint64_t tally_of(const uint8_t *file, const uint64_t *list);
 

@@ -1,32 +1,9 @@
 /* The plain model's check of a netlist file, refusals 1 to 10 and 15.
    Assumes that `file` points to `length` readable bytes. */
 
+#include "fields.h"
 #include "model.h"
 #include "record.h"
-
-enum { USES_A = 1, USES_B = 2, USES_C = 4, USES_K = 8 };
-
-static unsigned fields_used(uint8_t kind)
-{
-    switch (kind) {
-    case KIND_INPUT:
-        return 0;
-    case KIND_CONSTANT:
-        return USES_K;
-    case KIND_REGISTER:
-    case KIND_EXTRACT:
-    case KIND_LEFT_SHIFT:
-    case KIND_RIGHT_SHIFT:
-    case KIND_ARITHMETIC_SHIFT:
-        return USES_A | USES_K;
-    case KIND_OUTPUT:
-        return USES_A;
-    case KIND_MUX:
-        return USES_A | USES_B | USES_C;
-    default:
-        return USES_A | USES_B;
-    }
-}
 
 /* Refusals 1 to 5, or 0. */
 static unsigned header_refusal(const uint8_t *file, size_t length)

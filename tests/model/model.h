@@ -34,6 +34,12 @@ uint64_t model_trim_by(const uint8_t *file, size_t length,
                        const uint64_t *masks, size_t masks_words,
                        uint8_t *destination, size_t destination_length);
 
+/* Fills the mask list, writes the compacted file to the front of the
+   destination and gives its length; refused, it leaves both as they were. */
+uint64_t model_compact(const uint8_t *file, size_t length, uint64_t *masks,
+                       size_t masks_words, uint8_t *destination,
+                       size_t destination_length);
+
 /* Writes the reset states into the board list; accepted, it gives 0. Refused,
    it leaves the list as it was. */
 uint64_t model_start(const uint8_t *file, size_t length, uint64_t *board,

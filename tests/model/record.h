@@ -60,6 +60,12 @@ static inline uint64_t read_64(const uint8_t *bytes)
          | (uint64_t)bytes[6] << 48 | (uint64_t)bytes[7] << 56;
 }
 
+static inline void write_16(uint8_t *bytes, uint32_t number)
+{
+    bytes[0] = (uint8_t)number;
+    bytes[1] = (uint8_t)(number >> 8);
+}
+
 static inline void write_64(uint8_t *bytes, uint64_t number)
 {
     int i;
@@ -96,6 +102,17 @@ static inline struct record read_record(const uint8_t *file, uint32_t number)
     record.k = read_64(bytes + 8);
     record.keep = read_64(bytes + 16);
     return record;
+}
+
+static inline void write_record(uint8_t *bytes, const struct record *record)
+{
+    bytes[0] = record->kind;
+    bytes[1] = record->width;
+    write_16(bytes + 2, record->operand[0]);
+    write_16(bytes + 4, record->operand[1]);
+    write_16(bytes + 6, record->operand[2]);
+    write_64(bytes + 8, record->k);
+    write_64(bytes + 16, record->keep);
 }
 
 /* All ones from bit 0 up to the width. A shift by 64 has no meaning in C. */

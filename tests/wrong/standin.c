@@ -63,6 +63,19 @@ uint64_t pcn_trim_by(const uint8_t *file, size_t length, const uint64_t *masks,
     return answer;
 }
 
+uint64_t pcn_compact(const uint8_t *file, size_t length, uint64_t *masks,
+                     size_t masks_words, uint8_t *destination,
+                     size_t destination_length)
+{
+    uint64_t answer;
+
+    compact_before
+    answer = model_compact(file, length, masks, masks_words, destination,
+                           destination_length);
+    compact_after
+    return answer;
+}
+
 uint64_t pcn_start(const uint8_t *file, size_t length, uint64_t *board,
                    size_t board_words)
 {
