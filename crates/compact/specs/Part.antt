@@ -27,6 +27,9 @@ compact d masks = part (survives d masks) (blanked d masks)
 abbrev pub newNumber : Design → List ℕ → ℕ → ℕ
 newNumber d masks = rankOf (survives d masks)
 
--- "a compacted file", by the masks of the file's own design
+-- A file that is compacted by a list of masks, and "a compacted file": by the masks of its own design.
+abbrev pub compactedBy : List ℕ → List ℕ → List ℕ
+compactedBy file masks = encode (compact (designOf file) masks)
+
 abbrev pub compacted : List ℕ → List ℕ
-compacted file = encode (compact (designOf file) (masksOf (designOf file)))
+compacted file = compactedBy file (masksOf (designOf file))
