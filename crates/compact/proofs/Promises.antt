@@ -11,6 +11,7 @@ use lib.Seq.{sets, sets-eq, length-sets, take-at}
 use Rattle.endian.proofs.Stores.{stored-outside}
 use Rattle.netlist.specs.Layout.{Design, designOf, byteAt, recordAt, recordStart}
 use Rattle.netlist.specs.Refusals.{leaves}
+use Rattle.netlist.specs.declared.record.Kind.the-variants.{Constant}
 use Rattle.netlist.specs.declared.refusal.Refusal.{Refusal}
 use Rattle.rules.specs.Check.{checkOf}
 use Rattle.rules.specs.declared.Checked.{Checked}
@@ -27,7 +28,7 @@ use Rattle.trim.specs.Trimmed.{trimRecord, trimDesign}
 use Rattle.trim.proofs.Promises as trim
 use Rattle.compact.specs.Call.{CompactCall, isDone, compactAnswer, compactAfter, compactCall}
 use Rattle.compact.specs.Part.{renumberedRecord, compact, newNumber, compacted}
-use Rattle.compact.specs.Survivors.{isBlank, blank, withBlanks, blanked, Survivors, survives}
+use Rattle.compact.specs.Survivors.{isBlank, withBlanks, blanked, Survivors, survives}
 use Rattle.compact.specs.declared.Written.{Written}
 use Rattle.compact.specs.declared.Written.the-variants.{Done, Refused}
 use Rattle.compact.proofs.CallLaws.{refuseCompact, written, file-refused, list-refused, destination-refused, compact-done}
@@ -133,7 +134,8 @@ module _ (file list destination : List ℕ) (a : Accepts file list destination) 
 
     -- "becomes a constant of its width with k and keep word 0, naming nothing"
     pub constant-written : isBlank (designOf file) (masksOf (designOf file)) i ≡ true
-        → recordAt (compacted file) (newNumber (designOf file) (masksOf (designOf file)) i) ≡ blank (designOf file .at i .width)
+        → recordAt (compacted file) (newNumber (designOf file) (masksOf (designOf file)) i)
+        ≡ record { kind = Constant 0; width = designOf file .at i .width; keep = 0 }
     constant-written b = read ∙ blank-becomes d (accepted file (a .count) (a .checked) .sound) (masksOf d) i h t b
 
     -- "Others carry their trimmed keep words. Order is kept and numbers are renewed."

@@ -1,4 +1,4 @@
--- What the code below `compact` is asked for: the numbers of kinds in an accepted file, and the front of a cleared array.
+-- What the code below `compact` is asked for: the front of a cleared array.
 -- Assumes nothing.
 use mathlib.Core.Path.{_≡_, _∙_}
 use mathlib.Core.List.{List}
@@ -7,15 +7,8 @@ use native.Mathlib.Omega.{arith}
 use lib.ListN.{length, take, replicate, length-replicate, getD-replicate}
 use lib.Seq.{length-take-le, getD-take}
 use Rattle.netlist.specs.Layout.{countOf}
-use Rattle.rules.specs.Check.{checkOf}
 use Rattle.rules.specs.Sound.{Acceptance}
-use Rattle.rules.specs.declared.Checked.the-variants.{Accepted}
-use Rattle.rules.proofs.Acceptance.{accepted-kept, rule-facts}
-use Rattle.compactor.specs.Ready.{Cleared, Coded}
-
--- each record of an accepted file has the number of a kind
-pub coded : (file : List ℕ) {n : ℕ} → checkOf file ≡ Accepted n → Coded file
-coded file {n} e i h = rule-facts file i (accepted-kept file n e .each i h) .code
+use Rattle.compactor.specs.Ready.{Cleared}
 
 -- the front of an array of zeros
 pub front-cleared : (file list : List ℕ) (m : ℕ) → Acceptance file (countOf file) → length list ≡ countOf file → length list ≤ m

@@ -31,7 +31,6 @@ use Rattle.compact.proofs.BlankLaws.{blank-here, none-here}
 use Rattle.compact.proofs.SurvivorLaws.{blank-mask}
 use Rattle.compactor.specs.Bytes.{frontOf, threeWords, survivorBytes}
 use Rattle.compactor.specs.Numbers.{numbersOf}
-use Rattle.compactor.specs.Ready.{Coded}
 use Rattle.compactor.proofs.NumberLaws.{rank-zero, numbers-length, half-is}
 
 -- the bytes of the first word
@@ -86,7 +85,7 @@ module _ (file masks : List ℕ) (i : ℕ) where
       ∙ sym (ap (λ (r : Record). encodeRecord (renumberedRecord new r)) (blank-here (isBlank d masks) (trimDesign d masks) i b))
 
   -- any other, with the new numbers of its operands
-  module _ (accepted : Acceptance file (countOf file)) (codes : Coded file) (h : i < countOf file) where
+  module _ (accepted : Acceptance file (countOf file)) (h : i < countOf file) where
     abbrev f : Fields
     f = fieldsAt file i
 
@@ -121,11 +120,11 @@ module _ (file masks : List ℕ) (i : ℕ) where
     -- what is asked of the parts of the first word
     front-fits : (codeAt file i < 256) × ((recordAt file i .width < 256) × ((newNumber (designOf file) masks (fieldsAt file i .a) < 65536)
         × ((newNumber (designOf file) masks (fieldsAt file i .b) < 65536) × (newNumber (designOf file) masks (fieldsAt file i .c) < 65536))))
-    front-fits = (let l = codes i h in omega arith, (width-low, (below (f .a) a-below, (below (f .b) b-below, below (f .c) c-below))))
+    front-fits = (let l = accepted .codes i h in omega arith, (width-low, (below (f .a) a-below, (below (f .b) b-below, below (f .c) c-below))))
 
     code-same : codeOf (renumbered new (r .kind)) ≡ codeAt file i
     unfolding recordAt
-    code-same = renumbered-code new (r .kind) ∙ code-back (codeAt file i) f (codes i h)
+    code-same = renumbered-code new (r .kind) ∙ code-back (codeAt file i) f (accepted .codes i h)
 
     fields-same : usedFields (usesOf (renumbered new (r .kind))) ≡ record { a = new (f .a); b = new (f .b); c = new (f .c); k = f .k }
     fields-same =

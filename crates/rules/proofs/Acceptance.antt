@@ -118,6 +118,7 @@ accepted file n e =
       count = same;
       size = header .1 .1 .1 .1 .0 .0 ∙ ap recordStart (sym same);
       sound = record { few = header .1 .1 .1 .0 .0; each = λ i h. rule-facts file i (kept .each i h) .sound };
+      codes = λ i h. rule-facts file i (kept .each i (subst (λ (m : ℕ). i < m) same h)) .code;
       fields = λ i h. rule-facts file i (kept .each i (subst (λ (m : ℕ). i < m) same h)) .fields;
     }
 

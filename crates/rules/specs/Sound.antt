@@ -4,9 +4,9 @@ use mathlib.Core.Path.{_≡_}
 use mathlib.Core.List.{List}
 use Prim.Native.Nat.{ℕ, _^_, _≤_, _<_}
 use lib.ListN.{length}
-use Rattle.netlist.specs.Limits.{maxWidth, maxCount}
+use Rattle.netlist.specs.Limits.{maxWidth, maxCount, kindCount}
 use Rattle.netlist.specs.Kinds.{usesOf}
-use Rattle.netlist.specs.Layout.{Design, designOf, countOf, recordStart, recordAt, fieldsAt}
+use Rattle.netlist.specs.Layout.{Design, designOf, countOf, recordStart, recordAt, codeAt, fieldsAt}
 use Rattle.netlist.specs.Rules.{AllHold}
 use Rattle.rules.specs.Fit.{operandRules, widthRulesAt, multiplierRules, fieldRules}
 
@@ -26,12 +26,13 @@ pub record Sound (d : Design) : Type 0 where
   pub few : d .count ≤ maxCount
   pub each : (i : ℕ) → i < d .count → SoundRecord d i
 
--- What acceptance with n records says of a file: its count and length, that its design is sound, and that the fields of each record
--- are those that its kind uses.
+-- What acceptance with n records says of a file: its count and length, that its design is sound, that each record has the number of a kind, and
+-- that its fields are those that the kind uses.
 pub record Acceptance (file : List ℕ) (n : ℕ) : Type 0 where
   pub count : n ≡ countOf file
   pub size : length file ≡ recordStart n
   pub sound : Sound (designOf file)
+  pub codes : (i : ℕ) → i < n → codeAt file i < kindCount
   pub fields : (i : ℕ) → i < n → AllHold (fieldRules (fieldsAt file i) (usesOf (recordAt file i .kind)))
 
 -- Two designs have the same count, and the same record at each number below it.

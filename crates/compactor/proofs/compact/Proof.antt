@@ -13,7 +13,6 @@ use Rattle.care.proofs.LeastMasks.{masks-length}
 use Rattle.compact.specs.declared.Written.the-variants.{Done}
 use Rattle.compact.proofs.CallLaws.{file-refused, list-refused, destination-refused, compact-done, all-of}
 use Rattle.compact.specs.Part.{compactedBy}
-use Rattle.compactor.proofs.ReadyLaws.{coded}
 use Rattle.compactor.proofs.compact.Statement.{statement}
 use Rattle.compactor.proofs.compact.Tie as tie
 
@@ -51,7 +50,6 @@ write-front-requires c κs = let check = c .before .before .before .before .befo
     let a = accepted file _ checked in
     record {
       accepted = with-count a;
-      codes = coded file checked;
       size = masks-length file _ a (fill .ensures .1) ∙ a .count;
       room = let t = c .before .before .before .before .before .before .if2 .left in omega arith;
     }

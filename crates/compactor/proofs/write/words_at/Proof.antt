@@ -31,13 +31,13 @@ is-blank-requires c κs = search needs
 mul-t17 : tie.Need-mul-t17
 unfolding recordAt
 mul-t17 c = let s = c .before .before .before .before .before .before .before .before in
-    let w = width-low (now (s .args .file)) (now (s .args .list)) (s .args .i) (s .pre .accepted) (s .pre .codes) (s .pre .below) in
+    let w = width-low (now (s .args .file)) (now (s .args .list)) (s .args .i) (s .pre .accepted) (s .pre .below) in
     let e = c .before .before .before .before .width-at .ensures in omega arith
 
 add-t18 : tie.Need-add-t18
 unfolding recordAt
 add-t18 c = let s = c .before .before .before .before .before .before .before .before in
-    let w = width-low (now (s .args .file)) (now (s .args .list)) (s .args .i) (s .pre .accepted) (s .pre .codes) (s .pre .below) in
+    let w = width-low (now (s .args .file)) (now (s .args .list)) (s .args .i) (s .pre .accepted) (s .pre .below) in
     let e = c .before .before .before .before .width-at .ensures in omega arith
 
 returns : tie.Need-returns
@@ -46,7 +46,7 @@ returns c = let width-at = c .before .before .before .before .width-at in
     let s = c .before .before .before .before .before .before .before .before in
     let file = now (s .args .file) in
     let list = now (s .args .list) in
-    let w = width-low file list (s .args .i) (s .pre .accepted) (s .pre .codes) (s .pre .below) in
+    let w = width-low file list (s .args .i) (s .pre .accepted) (s .pre .below) in
     let keep-at = c .before .before .keep-at in
     ap (λ (x : ℕ). threeWords (1 + 256 * x) 0 (bitAnd (maskAt list (s .args .i)) (keep-at .result))) (width-at .ensures)
     ∙ blank-bytes file list (s .args .i) _ (sym (c .before .is-blank .ensures) ∙ c .if1 .taken) w (ap (bitAnd (maskAt list (s .args .i))) (keep-at .ensures))
@@ -59,21 +59,21 @@ unfolding recordAt
 new-number-requires c κs = let s = c .before .before .before .before .before .before .before .before .before in
     let file = now (s .args .file) in
     let list = now (s .args .list) in
-    a-within file list (s .args .i) (s .pre .accepted) (s .pre .codes) (s .pre .below) (now (s .args .numbers)) (s .pre .numbered) (c .fields-at .ensures)
+    a-within file list (s .args .i) (s .pre .accepted) (s .pre .below) (now (s .args .numbers)) (s .pre .numbered) (c .fields-at .ensures)
 
 new-number-requires-2 : tie.Need-new-number-requires-2
 unfolding recordAt
 new-number-requires-2 c κs = let s = c .before .before .before .before .before .before .before .before .before .before in
     let file = now (s .args .file) in
     let list = now (s .args .list) in
-    b-within file list (s .args .i) (s .pre .accepted) (s .pre .codes) (s .pre .below) (now (s .args .numbers)) (s .pre .numbered) (c .before .fields-at .ensures)
+    b-within file list (s .args .i) (s .pre .accepted) (s .pre .below) (now (s .args .numbers)) (s .pre .numbered) (c .before .fields-at .ensures)
 
 new-number-requires-3 : tie.Need-new-number-requires-3
 unfolding recordAt
 new-number-requires-3 c κs = let s = c .before .before .before .before .before .before .before .before .before .before .before in
     let file = now (s .args .file) in
     let list = now (s .args .list) in
-    c-within file list (s .args .i) (s .pre .accepted) (s .pre .codes) (s .pre .below) (now (s .args .numbers)) (s .pre .numbered) (c .before .before .fields-at .ensures)
+    c-within file list (s .args .i) (s .pre .accepted) (s .pre .below) (now (s .args .numbers)) (s .pre .numbered) (c .before .before .fields-at .ensures)
 
 code-at-requires : tie.Need-code-at-requires
 code-at-requires c κs = search needs
@@ -85,7 +85,7 @@ front-word-requires c κs = let fields-at = c .before .before .before .before .f
     let s = c .before .before .before .before .before .before .before .before .before .before .before .before .before in
     let file = now (s .args .file) in
     let list = now (s .args .list) in
-    front-asked file list (s .args .i) (s .pre .accepted) (s .pre .codes) (s .pre .below) (now (s .args .numbers)) (s .pre .numbered) (fields-at .ensures)
+    front-asked file list (s .args .i) (s .pre .accepted) (s .pre .below) (now (s .args .numbers)) (s .pre .numbered) (fields-at .ensures)
     (c .code-at .ensures) (width-at .ensures)
     (c .before .before .before .new-number .ensures) (c .before .before .new-number2 .ensures) (c .before .new-number3 .ensures)
 
@@ -100,7 +100,7 @@ returns-2 c = let fields-at = c .before .before .before .before .before .fields-
     let s = c .before .before .before .before .before .before .before .before .before .before .before .before .before .before in
     let file = now (s .args .file) in
     let list = now (s .args .list) in
-    words-bytes file list (s .args .i) (s .pre .accepted) (s .pre .codes) (s .pre .below) (now (s .args .numbers)) (s .pre .numbered) (fields-at .ensures)
+    words-bytes file list (s .args .i) (s .pre .accepted) (s .pre .below) (now (s .args .numbers)) (s .pre .numbered) (fields-at .ensures)
     (c .before .code-at .ensures) (width-at .ensures)
     (new-number .ensures) (c .before .before .before .new-number2 .ensures) (c .before .before .new-number3 .ensures)
     (sym (is-blank .ensures) ∙ if1 .left) (c .front-word .ensures) (ap (bitAnd (maskAt list (s .args .i))) (keep-at .ensures))

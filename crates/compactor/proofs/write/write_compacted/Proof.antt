@@ -40,7 +40,6 @@ write-survivors-requires c κs = let write-header = c .before .before .before .b
     let pre = c .before .before .before .before .before .before .before .before .before .before .before .before .before .before .pre .0 in (
       record {
         accepted = pre .accepted;
-        codes = pre .codes;
         size = pre .size;
         room = ap length (write-header .ensures) ∙ length-sets (now (args .destination)) 0 (headerBytes (number-survivors .result))
             ∙ pre .room;

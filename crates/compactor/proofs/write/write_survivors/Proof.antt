@@ -23,7 +23,6 @@ write-survivor-requires c κs = let pre = c .before .before .before .before .bef
     let inv = c .before .before .loop .inv in (
       record {
         accepted = pre .0 .accepted;
-        codes = pre .0 .codes;
         size = pre .0 .size;
         numbered = pre .1;
         below = let t = c .before .loop-test .taken in let s = pre .0 .size in omega arith;
