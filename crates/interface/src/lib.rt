@@ -2,16 +2,13 @@
 // A caller in C is checked by nothing: include/pcn.h says what it must pass. Nothing is asked of a caller in Rattle.
 use answer::of_clocked;
 use answer::of_tallied;
-use answer::of_written;
-use compactor::compact;
 use simulator::cycle;
 use simulator::start;
 use trimmer::by::trim_by;
 ghost use mathlib.Core.Path.{_≡_};
 ghost use Rattle.clock.specs.Call.{startCall, cycleCall};
 ghost use Rattle.trim.specs.CallBy.{trimByCall};
-ghost use Rattle.compact.specs.Call.{compactCall};
-ghost use Rattle.answer.specs.Answer.{clockedAnswer, talliedAnswer, writtenAnswer};
+ghost use Rattle.answer.specs.Answer.{clockedAnswer, talliedAnswer};
 
 // Writes the reset states of a file's design into a board list.
 #[no_mangle]
@@ -39,14 +36,4 @@ pub extern "C" fn pcn_trim_by(file: &[u8], masks: &[u64], destination: &mut [u8]
     ensures destination { λ r. ⌜ now (destination .exit) ≡ trimByCall (now (file .entry)) (now (masks .entry)) (now (destination .entry)) .destination ⌝ }
 {
     of_tallied(trim_by(file, masks, destination))
-}
-
-// Writes the masks of a file's design and its compacted file: the new length, or the refusal and its record.
-#[no_mangle]
-pub extern "C" fn pcn_compact(file: &[u8], masks: &mut [u64], destination: &mut [u8]) -> u64
-    ensures answer { λ r. ⌜ r ≡ writtenAnswer (compactCall (now (file .entry)) (now (masks .entry)) (now (destination .entry)) .answer) ⌝ }
-    ensures masks { λ r. ⌜ now (masks .exit) ≡ compactCall (now (file .entry)) (now (masks .entry)) (now (destination .entry)) .list ⌝ }
-    ensures destination { λ r. ⌜ now (destination .exit) ≡ compactCall (now (file .entry)) (now (masks .entry)) (now (destination .entry)) .destination ⌝ }
-{
-    of_written(compact(file, masks, destination))
 }

@@ -1,12 +1,12 @@
--- `interface::pcn_compact` meets its contract: the operation's answer fits into its number, and the lists are those that the operation leaves.
+-- `desktop::compacting::pcn_compact` meets its contract: the operation's answer fits into its number, and the lists are those that the operation leaves.
 -- Assumes nothing.
 use mathlib.Core.Path.{sym, ap, subst, _∙_}
 use borrow.Author.Needs.{needs}
 use Rattle.answer.specs.Answer.{writtenAnswer}
 use Rattle.answer.specs.Fits.{WrittenFits}
 use Rattle.answer.proofs.Fitting.{compact-fits}
-use Rattle.interface.proofs.pcn_compact.Statement.{statement}
-use Rattle.interface.proofs.pcn_compact.Tie as tie
+use Rattle.desktop.proofs.compacting.pcn_compact.Statement.{statement}
+use Rattle.desktop.proofs.compacting.pcn_compact.Tie as tie
 
 compact-requires : tie.Need-compact-requires
 compact-requires c κs = tt
