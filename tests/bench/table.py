@@ -167,7 +167,7 @@ def measured(programs, other="plain C", goals=GOALS):
     """Runs everything and gives the lines of the measured part."""
     counting = can_count()
     lines = machine_lines(counting)
-    print("about 95 s", file=sys.stderr)
+    print("about 100 s", file=sys.stderr)
     rows, rounds = best_rows(programs)
     if counting:
         count_rows(programs[0], rows)

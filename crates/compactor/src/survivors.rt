@@ -30,8 +30,7 @@ fn is_port(role: Role) -> bool
     }
 }
 
-// Whether record i has mask 0 and is neither input nor output. The mask is looked at first: most masks are not 0, where roles come in no order
-// that a processor could foresee.
+// Whether record i has mask 0 and is neither input nor output. The mask is looked at first, so that a role is read only where it is 0.
 pub fn is_blank(file: &[u8], list: &[u64], i: usize) -> bool
     requires { ⌜ LentAt (now file) (now list) i ⌝ }
     ensures { λ r. ⌜ r ≡ isBlank (designOf (now (file .entry))) (now (list .entry)) i ⌝ }
