@@ -1,5 +1,7 @@
 // The 64-bit number that a call gives.
 // A caller has an answer that fits into it.
+#![tactic(auto)]
+
 ghost use Rattle.std.specs.Prelude.{◌≡◌, ◌<◌, ◌^◌};
 ghost use Rattle.netlist.specs.Refusals.{number_of};
 ghost use Rattle.answer.specs.Answer.{refused_answer, tally_answer, check_answer, tallied_answer, clocked_answer, written_answer};

@@ -1,5 +1,7 @@
 // The care masks: the smallest under the care rules, and their tally. This crate has definitions and theorems, and no code but the types
 // that they are about. Nothing is asked of a caller.
+#![tactic(auto)]
+
 use netlist::refusal::Refusal;
 
 // The sum of all widths, and the count of ones over all masks.

@@ -1,5 +1,7 @@
 // The operation `change_over`: the masks of a file's design, and the board list that the compacted file goes on with. Nothing is written before the
 // last refusal has been ruled out. It asks nothing of its caller; `change` asks for an accepted file and lists of n words.
+#![tactic(auto)]
+
 ghost use Rattle.std.specs.Prelude.{◌≡◌};
 ghost use Rattle.netlist.specs.Layout.{design_of};
 ghost use Rattle.netlist.specs.Refusals.{leaves};

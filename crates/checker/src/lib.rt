@@ -1,5 +1,7 @@
 // The check of a file: the header's rules, each record's rules in rising order, and the operation `check`.
 // `check` asks nothing of its caller; the functions below it ask that the records lie within the file.
+#![tactic(auto)]
+
 ghost use Rattle.std.specs.Prelude.{◌≡◌, ◌≤◌, ◌<◌, length};
 ghost use Rattle.netlist.specs.Layout.{header_size, record_start, count_of};
 ghost use Rattle.netlist.specs.Rules.{test_all};

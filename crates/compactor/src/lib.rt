@@ -1,5 +1,7 @@
 // The operation `compact`: fills a lent list with the masks of a file's design, writes the compacted file and answers with its length.
 // `compact` asks nothing of its caller; `write_front` asks for an accepted file, a list of n words and as many bytes as the file has.
+#![tactic(auto)]
+
 ghost use Rattle.std.specs.Prelude.{◌≡◌, length};
 ghost use Rattle.std.proofs.lemmas.List.Edits.{sets};
 ghost use Rattle.compact.specs.Call.{compact_call};

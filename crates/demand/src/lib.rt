@@ -1,5 +1,7 @@
 // What a record asks of its operands under the care rules, kind by kind.
 // A caller has an accepted file and a record of it, or an operand that the file holds.
+#![tactic(auto)]
+
 ghost use Rattle.std.specs.Prelude.{◌≡◌, true, [], ◌∷◌, ◌+◌, ◌≤◌, ◌<◌, length};
 ghost use Rattle.std.specs.Int.Bits.{bit_or};
 ghost use Rattle.bits.specs.Words.{cut, down};

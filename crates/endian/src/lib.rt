@@ -1,5 +1,7 @@
 // Little-endian numbers in a slice of bytes, one by one and as lists of words.
 // A caller has the bytes that are read or written in the slice.
+#![tactic(auto)]
+
 ghost use Rattle.std.specs.Prelude.{◌≡◌, ◌++◌, ◌+◌, ◌*◌, ◌≤◌, ◌<◌, ◌^◌, length, drop};
 ghost use Rattle.endian.specs.Bytes.{number_at, bytes, word_bytes};
 

@@ -1,5 +1,7 @@
 // The lowest record of a list of masks whose mask lacks a bit that is called for, or has one outside its width.
 // A caller has an accepted file and a list with a word for each record. No kind is looked at here.
+#![tactic(auto)]
+
 ghost use Rattle.std.specs.Prelude.{◌≡◌, ◌<◌, min, length};
 ghost use Rattle.netlist.specs.Layout.{design_of};
 ghost use Rattle.rules.specs.Lent.{Lent, LentAt};

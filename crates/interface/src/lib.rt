@@ -1,5 +1,7 @@
 // The functions that C calls on lists of words: an operation each, and the number of its answer.
 // A caller in C is checked by nothing: include/pcn.h says what it must pass. Nothing is asked of a caller in Rattle.
+#![tactic(auto)]
+
 ghost use Rattle.std.specs.Prelude.{◌≡◌};
 ghost use Rattle.clock.specs.Call.{start_call, cycle_call};
 ghost use Rattle.trim.specs.CallBy.{trim_by_call};

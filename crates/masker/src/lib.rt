@@ -1,5 +1,7 @@
 // The operation `masks`: fills a lent list with the masks of a file's design and answers with their tally.
 // `masks` asks nothing of its caller; the functions below it ask for an accepted file and a list of n words.
+#![tactic(auto)]
+
 ghost use Rattle.std.specs.Prelude.{◌≡◌, ◌≤◌, ◌<◌};
 ghost use Rattle.endian.specs.Lists.{words_of};
 ghost use Rattle.netlist.specs.Layout.{design_of, count_of};

@@ -1,5 +1,7 @@
 // The program `masks`: reads a file from standard input and prints its masks, or why it is refused.
 // What it prints comes from proved functions; that it reads and prints just that, no contract says.
+#![tactic(auto)]
+
 ghost use Rattle.rules.specs.Lent.{Lent};
 ghost use Rattle.rules.specs.Sound.{Acceptance};
 

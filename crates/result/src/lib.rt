@@ -1,5 +1,7 @@
 // The results of records, kind by kind.
 // A caller of `result_at` has an accepted file, a record of it, and a board list with a word for each record.
+#![tactic(auto)]
+
 ghost use Rattle.std.specs.Prelude.{cond, ◌≡◌, ◌+◌, ◌*◌, ◌^◌, ◌≤◌, ◌<◌, eqb, ltb};
 ghost use Rattle.endian.specs.Lists.{word_at};
 ghost use Rattle.bits.specs.Words.{cut, product_at};

@@ -1,5 +1,7 @@
 // When a netlist file is accepted. This crate has definitions and theorems, and no code but the types that they are about.
 // Nothing is asked of a caller.
+#![tactic(auto)]
+
 use netlist::refusal::Refusal;
 
 // What the rules say of a header or of a record.

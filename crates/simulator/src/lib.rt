@@ -1,5 +1,7 @@
 // The operations `start` and `cycle`. Nothing is written before the last refusal has been ruled out.
 // Both ask nothing of their callers; the functions below them ask for an accepted file and lists of n words.
+#![tactic(auto)]
+
 ghost use Rattle.std.specs.Prelude.{◌≡◌};
 ghost use Rattle.netlist.specs.Layout.{design_of};
 ghost use Rattle.netlist.specs.Refusals.{leaves};

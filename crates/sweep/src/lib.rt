@@ -1,5 +1,7 @@
 // Backward sweeps over the records, from marked record to marked record, until none is marked.
 // A caller has an accepted file and a list with a mask within the width of each record.
+#![tactic(auto)]
+
 ghost use Rattle.std.specs.Prelude.{◌≡◌, ◌||◌, [], ◌∷◌, ◌*◌, ◌≤◌, ◌<◌, leb, ltb, length};
 ghost use Rattle.netlist.specs.Layout.{design_of, count_of};
 ghost use Rattle.rules.specs.Sound.{Acceptance};

@@ -1,5 +1,7 @@
 // The operation `trim`: fills a lent list with the masks of a file's design, writes the trimmed file and answers with the tally.
 // Nothing is asked of a caller.
+#![tactic(auto)]
+
 ghost use Rattle.std.specs.Prelude.{◌≡◌};
 ghost use Rattle.trim.specs.Call.{trim_call};
 
