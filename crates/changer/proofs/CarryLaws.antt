@@ -8,7 +8,7 @@ use Prim.Native.Nat.{ℕ, suc, ◌+◌, ◌/◌, ◌≤◌, ◌<◌}
 use native.Mathlib.Nat.{eq-or-lt_of_le, not-suc-le-zero}
 use native.Mathlib.Numerals.{add-one}
 use native.Mathlib.Omega.{arith}
-use lib.ListN.{length, set, length-set, length_append, get_or-append, get_or-eq_default}
+use lib.ListN.{length, set, length-set, length-append, get_or-append, get_or-eq_default}
 use lib.Seq.{get_or-set_same, get_or-set_other, get_or-take, ext_get_or}
 use Rattle.endian.specs.Lists.{word_at}
 use Rattle.netlist.specs.Layout.{Design}
@@ -46,7 +46,7 @@ module _ (test : ℕ → Bool) (f : ℕ → ℕ) (none : (i : ℕ) → test i �
       go (inl l) = get_or-append before (f i ∷ []) 0 j l
       go (inr l) =
           get_or-eq_default (before ++ (f i ∷ [])) 0 {n = j}
-          (let s = length_append before (f i ∷ []) in let p = length_picked test f i in let lt : length before < j = omega (arith, q) in omega arith)
+          (let s = length-append before (f i ∷ []) in let p = length_picked test f i in let lt : length before < j = omega (arith, q) in omega arith)
           ∙ sym (get_or-eq_default before 0 {n = j} l)
 
 -- ---- the list as it is being filled

@@ -7,7 +7,7 @@ use mathlib.Core.List.{List, [], ◌∷◌, ◌++◌, append-nil}
 use Prim.Native.Nat.{ℕ, zero, suc, ◌+◌, ◌≤◌, ◌<◌}
 use native.Mathlib.Nat.{eq-or-lt_of_le, not-suc-le-zero}
 use native.Mathlib.Omega.{arith}
-use lib.ListN.{length, get_or, length_append, get_or-append}
+use lib.ListN.{length, get_or, length-append, get_or-append}
 use lib.Seq.{get_or-append-add}
 use Rattle.netlist.specs.Picked.{picked, rank_of, place_of}
 use Rattle.netlist.proofs.LowestLaws.{not_both}
@@ -26,7 +26,7 @@ module _ (test : ℕ → Bool) (f : ℕ → ℕ) (n : ℕ) where
 
 module _ (test : ℕ → Bool) (n : ℕ) where
   pub rank_more : test n ≡ true → rank_of test (suc n) ≡ suc (rank_of test n)
-  rank_more e = ap length (picked_more test (λ j. j) n e) ∙ length_append (picked test (λ j. j) n) (n ∷ []) ∙ omega arith
+  rank_more e = ap length (picked_more test (λ j. j) n e) ∙ length-append (picked test (λ j. j) n) (n ∷ []) ∙ omega arith
 
   pub rank_none : test n ≡ false → rank_of test (suc n) ≡ rank_of test n
   rank_none e = ap length (picked_none test (λ j. j) n e)
@@ -41,7 +41,7 @@ module _ (test : ℕ → Bool) where
       let before = length_picked f n in
       by_test (test n)
       (λ e.
-      ap length (picked_more test f n e) ∙ length_append (picked test f n) (f n ∷ []) ∙ let q = rank_more test n e in omega arith)
+      ap length (picked_more test f n e) ∙ length-append (picked test f n) (f n ∷ []) ∙ let q = rank_more test n e in omega arith)
       (λ e. ap length (picked_none test f n e) ∙ before ∙ sym (rank_none test n e))
 
   pub rank_le : (n : ℕ) → rank_of test n ≤ n

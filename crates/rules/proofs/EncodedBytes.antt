@@ -5,7 +5,7 @@ use mathlib.Core.List.{List, ◌++◌, append_assoc, append-nil}
 use Prim.Native.Nat.{ℕ, zero, suc, ◌+◌, ◌*◌, ◌≤◌, ◌<◌}
 use native.Mathlib.Nat.{add-zero, add-suc, zero-add, suc-add, le_of_suc-le-suc}
 use native.Mathlib.Omega.{arith}
-use lib.ListN.{length, get_or, length_append, get_or-append}
+use lib.ListN.{length, get_or, length-append, get_or-append}
 use lib.Seq.{get_or-append-add}
 use Rattle.endian.specs.Bytes.{number_at}
 use Rattle.netlist.specs.Layout.{Design, record_size, record_start}
@@ -20,7 +20,7 @@ pub length_from : (d : Design) (left i : ℕ) → length (encode_from d left i) 
 unfolding encode_from
 length_from d zero i = refl
 length_from d (suc left) i =
-    length_append (encode_record (d.at i)) (encode_from d left (suc i)) ∙ ap₂ ◌+◌ (length_record (d.at i)) (length_from d left (suc i))
+    length-append (encode_record (d.at i)) (encode_from d left (suc i)) ∙ ap₂ ◌+◌ (length_record (d.at i)) (length_from d left (suc i))
     ∙ omega arith
 
 -- one record more
