@@ -42,6 +42,7 @@ length_encode d = let e = length_from d d.count 0 in omega arith
 -- byte k of the j-th of the records from i on
 byte_from : (d : Design) (left i j k : ℕ) → j < left → k < record_size → get_or (encode_from d left i) (record_size * j + k) 0 ≡ get_or (encode_record (d.at (i + j))) k 0
 unfolding encode_from
+byte_from d zero i j k h g = absurd (omega arith)
 byte_from d (suc left) i zero k h g =
     ap (λ (m : ℕ). get_or (encode_record (d.at i) ++ encode_from d left (suc i)) m 0) (zero-add k)
     ∙ get_or-append (encode_record (d.at i)) (encode_from d left (suc i)) 0 k (rw length_record g)
