@@ -25,7 +25,7 @@ use Rattle.signal.proofs.AskedNothing.{asked_none}
 use Rattle.signal.proofs.AskedOperands.{asked_each}
 use Rattle.care.specs.Least.{Least, output_seed, mask_at}
 use Rattle.trim.specs.Trimmed.{trim_design}
-use Rattle.compact.specs.Survivors.{is_port, is_blank, blank, with_blanks, blanked, Surviving, Survivors, is_named, survives}
+use Rattle.compact.specs.Survivors.{is_port, is_blank, with_blanks, blanked, Surviving, Survivors, is_named, survives}
 use Rattle.compact.proofs.BlankLaws.{blank_here, none_here}
 use Rattle.compact.proofs.PartLaws.{NamesInside}
 
