@@ -7,7 +7,7 @@ ghost use Rattle.netlist.specs.Rules.{test_all};
 ghost use Rattle.netlist.specs.declared.record.Role.TheVariants.{Input, Gate};
 
 // The four fields of a record in the file, used or not.
-#[derive(Drop)]
+#[derive(Clone, Copy)]
 pub struct Fields {
     pub a: usize,
     pub b: usize,
@@ -16,7 +16,7 @@ pub struct Fields {
 }
 
 // A kind, with the fields that it uses.
-#[derive(Drop)]
+#[derive(Clone, Copy)]
 pub enum Kind {
     Input,
     Constant { k: u64 },
@@ -40,7 +40,7 @@ pub enum Kind {
 }
 
 // The role of a record in a design.
-#[derive(Drop)]
+#[derive(Clone, Copy)]
 pub enum Role {
     Input,
     Register { a: usize, k: u64 },
@@ -48,7 +48,7 @@ pub enum Role {
     Gate,
 }
 
-#[derive(Drop)]
+#[derive(Clone, Copy)]
 pub struct Record {
     pub kind: Kind,
     pub width: u64,
@@ -57,7 +57,7 @@ pub struct Record {
 
 // What a kind uses: the number of its operands, the four fields with 0 where it has no use for one, the k that has to fit
 // the width (0 where there is none), and its role.
-#[derive(Drop)]
+#[derive(Clone, Copy)]
 pub struct Uses {
     pub count: usize,
     pub a: usize,
