@@ -3,7 +3,7 @@
 #![tactic(auto)]
 
 // A mask that is asked of an operand.
-#[derive(Drop)]
+#[derive(Clone, Copy)]
 pub struct Ask {
     pub operand: usize,
     pub mask: u64,
