@@ -40,7 +40,6 @@ loop-smaller c =
     let r = c.loop.invariant.0 in
     let w = c.sweep.ensures in
     let g = c.highest_below.ensures in
-    let t = c.if-highest_below-eq0.false in
     let b = g.below in
     let e = c.requires.fits.size in
     uncared_less (design_of c.args.file.now) r.accepted.sound _ _ r.fits w.between (w.added _ (omega arith) (omega arith) (g.marked (omega arith)))
@@ -65,6 +64,5 @@ returns c =
     let d = design_of c.args.file.now in
     let w = c.sweep.ensures in
     let g = c.highest_below.ensures in
-    let t = c.if-highest_below-eq0.true in
     reached d p.accepted.sound _ p.fits _ (between_trans d _ _ _ c.visit.ensures.between (between_trans d _ _ _ c.loop.invariant.1 w.between))
     (settled_all d w (λ i h. g.none i (omega arith) (let e = p.fits.size in omega arith)))

@@ -104,5 +104,5 @@ loop-i-preserved c =
       omega arith,
       v.2,
       passed_by (design_of c.args.file.now) p.0.accepted.sound _ loop.i _ _ _ loop.list _ _ p.0.fits c.loop-i-test.true (omega arith) v.3
-          c.demand_at-d.ensures c.if-d-ne0.false,
+          c.demand_at-d.ensures (omega arith),
     )
