@@ -1,0 +1,28 @@
+-- `compactor::write::write_survivors` meets its contract: after i turns the records of the survivors below i are written.
+-- Assumes nothing.
+use native.Mathlib.Omega.{arith}
+use Rattle.netlist.specs.Layout.{design_of}
+use Rattle.compactor.proofs.WriteLaws.{writing_none, writing_next, writing_all}
+use Rattle.compactor.proofs.write.write_survivors.Goals as goal
+
+pub loop-i-init : goal.loop-i-init
+loop-i-init c = writing_none _ _ _
+
+pub loop-i-preserved : goal.loop-i-preserved
+unfolding design_of
+loop-i-preserved c = let args = c.args in
+    let pre = c.requires in
+    let loop = c.loop-i in
+    writing_next (design_of args.file.now) pre.0.accepted.sound args.list.now args.destination.now _ _ loop.i loop.invariant
+    (let t = c.loop-i-test.true in let s = pre.0.size in omega arith) c.write_survivor.ensures
+
+-- ?? same_length : tie.Need-same-length invariant-loop decreases-loop
+-- same_length c = c.before.loop.invariant.size
+
+pub returns : goal.returns
+unfolding design_of
+returns c = let args = c.args in
+    let pre = c.requires in
+    let loop = c.loop-i in
+    writing_all (design_of args.file.now) pre.0.accepted.sound args.list.now args.destination.now _ loop.i loop.invariant
+    (let t = c.loop-i-test.false in let s = pre.0.size in omega arith)
