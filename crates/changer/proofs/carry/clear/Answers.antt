@@ -1,0 +1,10 @@
+-- `changer::carry::clear` meets its contract: after i turns the first i words are 0.
+-- Assumes nothing.
+use Rattle.endian.proofs.ListLaws.{filled_all}
+use Rattle.changer.proofs.carry.clear.Goals as goal
+
+-- ?? same_length : tie.Need-same-length invariant-loop decreases-loop
+-- same_length c = c.before.loop.invariant.size
+
+pub returns : goal.returns
+returns c = filled_all c.loop-i.invariant c.loop-i-test.false
