@@ -4,7 +4,6 @@ ghost use Rattle.std.specs.Prelude.{◌≡◌, length};
 ghost use Rattle.rules.specs.Lent.{Lent};
 ghost use Rattle.trim.specs.Trimmed.{trimmed_by};
 
-use bytes::copy;
 use endian::write_64;
 use netlist::layout::{keep_at, keep_start};
 
@@ -12,7 +11,7 @@ pub fn write_trimmed(file: &[u8], list: &[u64], destination: &mut [u8])
     requires { Lent file.now list.now × (length destination.old ≡ length file.now) }
     ensures { destination.new ≡ trimmed_by file.now list.now }
 {
-    copy(file, destination);
+    destination.copy_from_slice(file);
     let mut i: usize = 0;
     while i < list.len() {
         let at = keep_start(i);

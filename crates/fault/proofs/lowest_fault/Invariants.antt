@@ -1,11 +1,8 @@
 -- `fault::lowest_fault` meets its contract: each turn looks at one more record, and `Searched` is kept.
 -- Assumes nothing.
-use mathlib.Core.Path.{sym, subst}
-use Prim.Native.Nat.{◌+◌, ◌-◌}
-use native.Mathlib.Omega.{arith}
-use Rattle.netlist.proofs.LowestLaws.{lowest_number}
+use Prim.Native.Nat.{◌-◌}
 use Rattle.netlist.specs.Layout.{design_of, count_of}
-use Rattle.fault.proofs.FaultLaws.{Searched, searched_none, searched_next, searched_all}
+use Rattle.fault.proofs.FaultLaws.{Searched}
 use Rattle.fault.proofs.lowest_fault.Given as goal
 
 abbrev pub invariant-loop-i : goal.invariant-loop-i

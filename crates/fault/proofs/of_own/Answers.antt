@@ -3,7 +3,6 @@
 use mathlib.Core.Path.{sym, ap, ap₂, subst, ◌∙◌}
 use mathlib.Core.Bool.{Bool}
 use Prim.Native.Nat.{ℕ, ◌≤◌}
-use borrow.Author.Rules.{rules}
 use Rattle.bits.specs.Words.{low_mask}
 use Rattle.bits.specs.Masks.{exceeds}
 use Rattle.netlist.specs.Layout.{design_of, record_at}
@@ -13,16 +12,13 @@ use Rattle.fault.proofs.of_own.Goals as goal
 
 pub low_mask-requires : goal.low_mask-requires
 unfolding design_of record_at
-low_mask-requires c = let start = c.before.before.before.before in
-    subst (λ (w : ℕ). w ≤ 64) (sym c.width_at.ensures) (start.requires.accepted.sound.each start.args.i start.requires.below).narrow
+low_mask-requires c = subst (λ (w : ℕ). w ≤ 64) (sym c.width_at.ensures) (c.requires.accepted.sound.each c.args.i c.requires.below).narrow
 
 pub returns : goal.returns
 unfolding design_of record_at
 returns c = let a = c.args in
     let mask = mask_at a.list.now a.i in
-    let low_mask = c.low_mask in
-    let width-at = c.width_at in
-    let wide = c.exceeds.ensures ∙ ap (exceeds mask) (low_mask.ensures ∙ ap low_mask width-at.ensures) in
+    let wide = c.exceeds.ensures ∙ ap (exceeds mask) (c.low_mask.ensures ∙ ap low_mask c.width_at.ensures) in
     let lacks = c.exceeds-2.ensures ∙ ap (λ (m : ℕ). exceeds m mask) c.seed_at.ensures in
     let narrow = c.lower_if-narrow.ensures ∙ ap (λ (b : Bool). lower_if b a.i a.low) wide in
     c.lower_if.ensures ∙ ap₂ (λ (b : Bool) (n : ℕ). lower_if b a.i n) lacks narrow

@@ -3,7 +3,6 @@
 use mathlib.Core.Path.{sym, ap, ap₂, subst, ◌∙◌}
 use mathlib.Core.List.{List}
 use lib.ListN.{length}
-use borrow.Author.Rules.{rules}
 use Rattle.netlist.specs.Layout.{design_of}
 use Rattle.signal.proofs.AskedNothing.{asked_none}
 use Rattle.signal.specs.declared.Ask.{Ask}

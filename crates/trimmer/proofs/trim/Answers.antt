@@ -1,0 +1,46 @@
+-- `trimmer::trim` meets its contract: the file, the mask list or the destination is refused, or both lists are written.
+-- Assumes nothing.
+use mathlib.Core.Path.{sym, ap, ◌∙◌}
+use Rattle.rules.proofs.Acceptance.{accepted, lent}
+use Rattle.care.specs.declared.Tallied.TheVariants.{Done}
+use Rattle.care.proofs.LeastMasks.{masks_length}
+use Rattle.trim.specs.Trimmed.{trimmed_by}
+use Rattle.trim.proofs.CallLaws.{file_refused, list_refused, destination_refused, all_of}
+use Rattle.trim.proofs.Promises.{writes}
+use Rattle.trimmer.proofs.trim.Goals as goal
+
+pub returns-then-list-n : goal.returns-then-list-n
+returns-then-list-n c = let args = c.args in
+    let b = all_of _ _ (list_refused args.file.now args.list.now args.destination.now (sym c.check.ensures ∙ c.in-Accepted.is) c.if-list-n.true) in
+    record { answer = b.0; list = b.1.0; destination = b.1.1 }
+
+pub returns-then-destination-file : goal.returns-then-destination-file
+returns-then-destination-file c = let args = c.args in
+    let b = all_of _ _ (destination_refused args.file.now args.list.now args.destination.now (sym c.check.ensures ∙ c.in-Accepted.is)
+    c.if-list-n.false c.if-destination-file.true) in
+    record { answer = b.0; list = b.1.0; destination = b.1.1 }
+
+pub fill-tally-requires : goal.fill-tally-requires
+fill-tally-requires c = lent (accepted c.args.file.now _ (sym c.check.ensures ∙ c.in-Accepted.is)) c.if-list-n.false
+
+pub write_trimmed-requires : goal.write_trimmed-requires
+write_trimmed-requires c = let file = c.args.file.now in
+    let a = accepted file _ (sym c.check.ensures ∙ c.in-Accepted.is) in
+    (lent a (masks_length file _ a c.fill-tally.ensures.list), c.if-destination-file.false)
+
+pub returns-else-destination-file : goal.returns-else-destination-file
+returns-else-destination-file c = let args = c.args in
+    let file = args.file.now in
+    let fill = c.fill-tally.ensures in
+    let b = all_of _ _ (writes file args.list.now args.destination.now _ (sym c.check.ensures ∙ c.in-Accepted.is)
+    c.if-list-n.false c.if-destination-file.false) in
+    record {
+      answer = ap Done fill.tally ∙ b.0;
+      list = fill.list ∙ b.1.0;
+      destination = c.write_trimmed.ensures ∙ ap (trimmed_by file) fill.list ∙ b.1.1;
+    }
+
+pub returns-in-Refused : goal.returns-in-Refused
+returns-in-Refused c = let args = c.args in
+    let b = all_of _ _ (file_refused args.file.now args.list.now args.destination.now (sym c.check.ensures ∙ c.in-Refused.is)) in
+    record { answer = b.0; list = b.1.0; destination = b.1.1 }
