@@ -20,16 +20,19 @@ SEED = 1
 # Two runs of rt at the same time would write the same files.
 .NOTPARALLEL:
 
+# `rt run` proves, links and runs; on no input the program only says that this is no file.
 program:
-	@rt check masks
+	@cd crates/masks && rt run </dev/null >/dev/null
+	@install -D -m 755 crates/masks/out/masks $(PROGRAM)
 
 sample: program
 	@echo "$(PROGRAM) < examples/shift-chain.pcn"
 	@$(PROGRAM) < examples/shift-chain.pcn
 
 library:
-	@for crate in $(FOR_C); do rt staticlib $$crate || exit 1; done
-	@cd target/staticlib && rm -f libpcn.a && { echo create libpcn.a; for crate in $(FOR_C); do echo addlib lib$$crate.a; done; echo save; } | ar -M
+	@for crate in $(FOR_C); do (cd crates/$$crate && rt lib) || exit 1; done
+	@mkdir -p $(dir $(LIBRARY)) && rm -f $(LIBRARY)
+	@{ echo create $(LIBRARY); for crate in $(FOR_C); do echo addlib crates/$$crate/out/lib$$crate.a; done; echo save; } | ar -M
 
 test:
 	@tests/setup

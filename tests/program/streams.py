@@ -5,7 +5,6 @@ import fcntl
 import itertools
 import os
 import pty
-import signal
 import subprocess
 import tempfile
 import time
@@ -18,7 +17,7 @@ from runs import FULL, FULL_TEXT, refused
 F_SETPIPE_SZ = 1031
 
 # Paper 01 names no status. Where its answer was not taken the program says
-# so; it cannot choose its status.
+# so, and its status is 0 all the same.
 UNHEARD = "", 0, "masks: standard output cannot be written\n"
 
 # Loaded before the C library: the writes from number FROM on fail, TIMES of
@@ -137,14 +136,13 @@ def read_by(tests, sizes, restore=True):
 
 
 def readers(tests):
-    """The signal of a broken pipe ends the program, unless it was started
-    with that signal ignored."""
-    for restore, name, how in ((True, "ends", (-signal.SIGPIPE, "")),
-                               (False, "is ignored in", UNHEARD[1:])):
+    """A broken pipe is a write that fails: the program ignores its signal,
+    whether or not it was started with that signal ignored."""
+    for restore, name in ((True, "does not end"), (False, "is ignored in")):
         for size in (0, 1, 15, 3000):
             done = read_by(tests, [size], restore)
             tests.judge(f"{size} bytes read", done,
-                        FULL_TEXT[:len(done.stdout)], *how)
+                        FULL_TEXT[:len(done.stdout)], *UNHEARD[1:])
         tests.end(f"a broken pipe {name} the program")
 
     tests.judge("slow reader", read_by(tests, itertools.repeat(997)),

@@ -2,93 +2,88 @@
 // What it prints comes from proved functions; that it reads and prints just that, no contract says.
 #![tactic(auto)]
 
+ghost use Rattle.std.specs.Prelude.{◌≤◌, length};
 ghost use Rattle.rules.specs.Lent.{Lent};
 ghost use Rattle.rules.specs.Sound.{Acceptance};
 
 use care::Tally;
 use checker::check;
-use libc::{STDERR_FILENO, STDIN_FILENO, STDOUT_FILENO};
 use masker::fill;
 use netlist::layout::{HEADER, RECORD, width_at};
 use netlist::record::Record;
 use netlist::refusal::Refusal;
 use rules::Checked;
+use std::io;
+use std::io::Read;
 
 // One byte more than the longest file: enough to refuse what is longer.
 const INPUT: usize = HEADER + RECORD * Record::MAX_COUNT + 1;
 
-// Each function that prints answers whether all was written. Once a write has failed nothing more is printed, since a line with a gap could
-// show the mask of another record.
-fn print_space() -> bool {
-    io::write_all(STDOUT_FILENO, b" ")
+// Each function that prints ends at the first write that fails, since a line behind a gap could show the mask of another record.
+fn print_refusal(rt: &impl Print, refusal: Refusal, record: usize) -> io::Result<()> {
+    println!(rt; "refused {} record {record}", refusal.number())
 }
 
-fn print_newline() -> bool {
-    io::write_all(STDOUT_FILENO, b"\n")
+fn print_tally(rt: &impl Print, n: usize, tally: Tally) -> io::Result<()> {
+    println!(rt; "{n} {} {}", tally.widths, tally.ones)
 }
 
-fn print_refusal(refusal: Refusal, record: usize) -> bool {
-    io::write_all(STDOUT_FILENO, b"refused ")
-        && (io::print_decimal(STDOUT_FILENO, refusal.number())
-            && (io::write_all(STDOUT_FILENO, b" record ")
-                && (io::print_decimal(STDOUT_FILENO, record as u64) && print_newline())))
-}
-
-// A number, with a space after it.
-fn print_field(n: u64) -> bool {
-    io::print_decimal(STDOUT_FILENO, n) && print_space()
-}
-
-fn print_tally(n: usize, tally: Tally) -> bool {
-    print_field(n as u64)
-        && (print_field(tally.widths)
-            && (io::print_decimal(STDOUT_FILENO, tally.ones) && print_newline()))
-}
-
-fn print_mask(i: usize, width: u64, mask: u64) -> bool {
-    print_field(i as u64)
-        && (print_field(width) && (io::print_hex(STDOUT_FILENO, mask, 16) && print_newline()))
+fn print_mask(rt: &impl Print, i: usize, width: u64, mask: u64) -> io::Result<()> {
+    println!(rt; "{i} {width} {mask:016x}")
 }
 
 // A line for each record.
-fn print_masks(file: &[u8], list: &[u64]) -> bool
+fn print_masks(rt: &impl Print, file: &[u8], list: &[u64]) -> io::Result<()>
     requires { Lent file.now list.now }
 {
     let mut i: usize = 0;
     while i < list.len() {
-        if !print_mask(i, width_at(file, i), list[i]) {
-            return false;
-        }
+        print_mask(rt, i, width_at(file, i), list[i])?;
         i += 1;
     }
-    true
+    Ok(())
 }
 
 // The tally and the masks of an accepted file of n records.
-fn print_accepted(file: &[u8], n: usize) -> bool
+fn print_accepted(rt: &impl Print, file: &[u8], n: usize) -> io::Result<()>
     requires { Acceptance file.now n }
 {
     let mut words: [u64; Record::MAX_COUNT] = [0; Record::MAX_COUNT];
     let tally = fill(file, &mut words[..n]);
-    print_tally(n, tally) && print_masks(file, &words[..n])
+    print_tally(rt, n, tally)?;
+    print_masks(rt, file, &words[..n])
 }
 
-fn report(file: &[u8]) -> bool {
+fn report(rt: &impl Print, file: &[u8]) -> io::Result<()> {
     match check(file) {
-        Checked::Accepted(n) => print_accepted(file, n),
-        Checked::Refused(r, i) => print_refusal(r, i),
+        Checked::Accepted(n) => print_accepted(rt, file, n),
+        Checked::Refused(r, i) => print_refusal(rt, r, i),
     }
+}
+
+// Fills the buffer from its front: how many bytes were read. A read that fails counts as the end of the input.
+fn read_full(input: &mut impl Read, buffer: &mut [u8]) -> usize
+    ensures { result ≤ length buffer.new }
+{
+    let mut done: usize = 0;
+    while done < buffer.len() {
+        match input.read(&mut buffer[done..]) {
+            Ok(0) | Err(_) => return done,
+            Ok(n) => done += n,
+        }
+    }
+    done
 }
 
 // Reads no more than the buffer holds.
-fn run(buffer: &mut [u8]) {
-    let n = io::read_full(STDIN_FILENO, buffer);
-    if !report(&buffer[..n]) {
-        io::write_all(STDERR_FILENO, b"masks: standard output cannot be written\n");
+fn run(rt: &HostRuntime, buffer: &mut [u8]) {
+    let n = read_full(&mut rt.stdin(), buffer);
+    if report(rt, &buffer[..n]).is_err() {
+        let _ = eprintln!(rt; "masks: standard output cannot be written");
     }
 }
 
-fn main() {
-    let mut buffer = io::large_buffer();
-    run(&mut buffer[..INPUT]);
+fn main(rt: HostRuntime) {
+    let mut buffer = [0; INPUT];
+    run(&rt, &mut buffer);
 }
