@@ -5,14 +5,14 @@
 use netlist::refusal::Refusal;
 
 // The sum of all widths, and the count of ones over all masks.
-#[derive(Drop)]
+#[derive(Clone, Copy)]
 pub struct Tally {
     pub widths: u64,
     pub ones: u64,
 }
 
 // The answer of an operation that fills a mask list: the tally, or the refusal and its record.
-#[derive(Drop)]
+#[derive(Clone, Copy)]
 pub enum Tallied {
     Done(Tally),
     Refused(Refusal, usize),
