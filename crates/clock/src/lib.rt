@@ -5,7 +5,7 @@
 use netlist::refusal::Refusal;
 
 // The answer of a call that says only that it was accepted: done, or the refusal and its record.
-#[derive(Drop)]
+#[derive(Clone, Copy)]
 pub enum Clocked {
     Done,
     Refused(Refusal, usize),

@@ -5,7 +5,7 @@
 use netlist::refusal::Refusal;
 
 // The answer of an operation that writes the front of a buffer: how many bytes it wrote, or the refusal and its record.
-#[derive(Drop)]
+#[derive(Clone, Copy)]
 pub enum Written {
     Done(usize),
     Refused(Refusal, usize),

@@ -20,7 +20,7 @@ const MARK: u64 = 0x14e4350;
 const COUNT_PLACE: u64 = 0x1000000000000;
 
 // A record as three words: its kind, width and operands, then k, then the keep word.
-#[derive(Drop)]
+#[derive(Clone, Copy)]
 struct Words {
     front: u64,
     k: u64,

@@ -18,7 +18,7 @@ use netlist::record::{Kind, Record};
 use signal::Ask;
 
 // What a record asks: the first `count` of three.
-#[derive(Drop)]
+#[derive(Clone, Copy)]
 pub struct Asks {
     pub count: usize,
     pub first: Ask,

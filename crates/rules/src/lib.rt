@@ -5,14 +5,14 @@
 use netlist::refusal::Refusal;
 
 // What the rules say of a header or of a record.
-#[derive(Drop)]
+#[derive(Clone, Copy)]
 pub enum Verdict {
     Pass,
     Fail(Refusal),
 }
 
 // The answer of a check: the count of records, or the refusal and its record.
-#[derive(Drop)]
+#[derive(Clone, Copy)]
 pub enum Checked {
     Accepted(usize),
     Refused(Refusal, usize),
