@@ -120,9 +120,8 @@ enum pcn_refusal {
    destinations that are not `const`, allocate nothing and keep no state
    between calls, so several threads may call them at the same time, also for
    the same file, each with lists and a destination of its own. A refused call
-   changes nothing at all. pcn_masks and pcn_trim take less than 17,000 bytes
-   of the stack, pcn_compact less than 20,000, and each of the others less than
-   1,000. */
+   changes nothing at all. pcn_masks, pcn_trim and pcn_compact take less than
+   20,000 bytes of the stack, and each of the others less than 1,000. */
 
 /* Checks a netlist file. Accepted: the answer is the count of records. */
 uint64_t pcn_check(const uint8_t *file, size_t length);
