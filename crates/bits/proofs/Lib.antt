@@ -1,6 +1,7 @@
 -- The laws of words and masks that proofs cite, here and in the crates above.
 -- Assumes nothing.
 pub mod Counts
+pub mod CutLaws
 pub mod Modulo
 pub mod Digits
 pub mod Order

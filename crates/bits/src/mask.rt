@@ -17,6 +17,7 @@ pub fn low_mask(n: u64) -> u64
 }
 
 // The w lowest bits of x; all of x from width 64 on.
+#[tactic(auto, using(crate::proofs::CutLaws::cut_masked, crate::proofs::CutLaws::cut_whole))]
 pub fn cut_to(x: u64, w: u64) -> u64
     ensures { result ≡ cut w x }
 {

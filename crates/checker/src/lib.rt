@@ -24,6 +24,7 @@ fn marked(file: &[u8]) -> bool
 }
 
 // Rules 6 to 9, 15 and 10, for record i of n.
+#[tactic(auto, using(crate::proofs::VerdictLaws::kind_refused))]
 fn check_record(file: &[u8], n: usize, i: usize) -> Verdict
     requires { (n ≡ count_of file.now) × (record_start n ≤ length file.now) × (i < n) }
     ensures { result ≡ first_broken (record_rules file.now i) }
@@ -65,6 +66,7 @@ fn check_record(file: &[u8], n: usize, i: usize) -> Verdict
 }
 
 // Rules 1 to 5.
+#[tactic(auto, using(crate::proofs::VerdictLaws::version_refused, crate::proofs::VerdictLaws::many_refused))]
 fn check_header(file: &[u8]) -> Verdict
     ensures { result ≡ first_broken (header_rules file.now) }
 {

@@ -51,6 +51,7 @@ fn run(file: &[u8], board: &mut [u64], next: &mut [u64]) -> Clocked
 }
 
 // Writes the reset states of a file's design into a board list of n words.
+#[tactic(auto, using(crate::proofs::StartLaws::unfit_answer, crate::proofs::StartLaws::unfit_board, crate::proofs::StartLaws::fit_answer, crate::proofs::StartLaws::fit_board))]
 pub fn start(file: &[u8], board: &mut [u64]) -> Clocked
     ensures answer { result ≡ (start_call file.now board.old).answer }
     ensures board { board.new ≡ (start_call file.now board.old).board }

@@ -7,7 +7,7 @@ use Prim.Native.Nat.{ℕ, ◌+◌, ◌≤◌, ◌<◌}
 use native.Mathlib.Omega.{arith}
 use lib.Dec.{ltb}
 use lib.ListN.{length, drop, get_or}
-use borrow.Author.Tests.{lt-ltb, le-ltb}
+use borrow.Author.Tests.{lt-ltb}
 use Rattle.netlist.specs.Kinds.{kind_of, operands_of, uses_of}
 use Rattle.netlist.specs.Layout.{design_of, record_at, record_start, record_size, fields_at, code_at, width_at}
 use Rattle.netlist.specs.Limits.{kind_count}
@@ -88,17 +88,12 @@ module _ (file : List ℕ) (i : ℕ) where
       let below = operand_below (design_of file) limit n (operands_of u) low (omega arith) t k in
       omega (arith, below, room)
 
-pub returns-then-code-ge-KINDS : goal.returns-then-code-ge-KINDS
-unfolding record_rules
-returns-then-code-ge-KINDS c =
-    broken _ _ (and-true _ ∙ ap (λ (n : ℕ). ltb n kind_count) (sym c.code_at-code.ensures) ∙ le-ltb _ _ c.if-code-ge-KINDS.true)
-
 pub returns-then-not-width_in_range : goal.returns-then-not-width_in_range
 unfolding Leaves record_rules
 returns-then-not-width_in_range c =
     let file = c.args.file.now in
     let i = c.args.i in
-    let l1 = past_kind file i c.code_at-code.result c.code_at-code.ensures c.if-code-ge-KINDS.false in
+    let l1 = past_kind file i c.code_at-code.result c.code_at-code.ensures (omega arith) in
     l1 _ (broken _ _ (sym (c.width_in_range.ensures ∙ width_test file i c.width_at-w.result c.width_at-w.ensures) ∙ c.if-not-width_in_range.true))
 
 pub returns-then-not-operands_fit : goal.returns-then-not-operands_fit
@@ -108,7 +103,7 @@ returns-then-not-operands_fit c =
     let i = c.args.i in
     let r : Read file i c.code_at-code.result c.width_at-w.result c.fields_at-fields.result c.new-uses.result =
     record { code_is = c.code_at-code.ensures; w_is = c.width_at-w.ensures; f_is = c.fields_at-fields.ensures; u_is = c.new-uses.ensures } in
-    let l1 = past_kind file i c.code_at-code.result c.code_at-code.ensures c.if-code-ge-KINDS.false in
+    let l1 = past_kind file i c.code_at-code.result c.code_at-code.ensures (omega arith) in
     let t1 = sym (c.width_in_range.ensures ∙ width_test file i c.width_at-w.result c.width_at-w.ensures) ∙ c.if-not-width_in_range.false in
     let l2 = past_width file i l1 t1 in
     l2 _ (broken _ _ (sym (c.operands_fit.ensures
@@ -148,7 +143,7 @@ returns-then-not-widths_fit c =
     let i = c.args.i in
     let r : Read file i c.code_at-code.result c.width_at-w.result c.fields_at-fields.result c.new-uses.result =
     record { code_is = c.code_at-code.ensures; w_is = c.width_at-w.ensures; f_is = c.fields_at-fields.ensures; u_is = c.new-uses.ensures } in
-    let l1 = past_kind file i c.code_at-code.result c.code_at-code.ensures c.if-code-ge-KINDS.false in
+    let l1 = past_kind file i c.code_at-code.result c.code_at-code.ensures (omega arith) in
     let t1 = sym (c.width_in_range.ensures ∙ width_test file i c.width_at-w.result c.width_at-w.ensures) ∙ c.if-not-width_in_range.false in
     let l2 = past_width file i l1 t1 in
     let t2 = sym (c.operands_fit.ensures
@@ -167,7 +162,7 @@ returns-then-not-multiplier_fits c =
     let i = c.args.i in
     let r : Read file i c.code_at-code.result c.width_at-w.result c.fields_at-fields.result c.new-uses.result =
     record { code_is = c.code_at-code.ensures; w_is = c.width_at-w.ensures; f_is = c.fields_at-fields.ensures; u_is = c.new-uses.ensures } in
-    let l1 = past_kind file i c.code_at-code.result c.code_at-code.ensures c.if-code-ge-KINDS.false in
+    let l1 = past_kind file i c.code_at-code.result c.code_at-code.ensures (omega arith) in
     let t1 = sym (c.width_in_range.ensures ∙ width_test file i c.width_at-w.result c.width_at-w.ensures) ∙ c.if-not-width_in_range.false in
     let l2 = past_width file i l1 t1 in
     let t2 = sym (c.operands_fit.ensures
@@ -188,7 +183,7 @@ returns-then-not-fields_fit c =
     let i = c.args.i in
     let r : Read file i c.code_at-code.result c.width_at-w.result c.fields_at-fields.result c.new-uses.result =
     record { code_is = c.code_at-code.ensures; w_is = c.width_at-w.ensures; f_is = c.fields_at-fields.ensures; u_is = c.new-uses.ensures } in
-    let l1 = past_kind file i c.code_at-code.result c.code_at-code.ensures c.if-code-ge-KINDS.false in
+    let l1 = past_kind file i c.code_at-code.result c.code_at-code.ensures (omega arith) in
     let t1 = sym (c.width_in_range.ensures ∙ width_test file i c.width_at-w.result c.width_at-w.ensures) ∙ c.if-not-width_in_range.false in
     let l2 = past_width file i l1 t1 in
     let t2 = sym (c.operands_fit.ensures
@@ -211,7 +206,7 @@ returns-then-not-words_fit c =
     let i = c.args.i in
     let r : Read file i c.code_at-code.result c.width_at-w.result c.fields_at-fields.result c.new-uses.result =
     record { code_is = c.code_at-code.ensures; w_is = c.width_at-w.ensures; f_is = c.fields_at-fields.ensures; u_is = c.new-uses.ensures } in
-    let l1 = past_kind file i c.code_at-code.result c.code_at-code.ensures c.if-code-ge-KINDS.false in
+    let l1 = past_kind file i c.code_at-code.result c.code_at-code.ensures (omega arith) in
     let t1 = sym (c.width_in_range.ensures ∙ width_test file i c.width_at-w.result c.width_at-w.ensures) ∙ c.if-not-width_in_range.false in
     let l2 = past_width file i l1 t1 in
     let t2 = sym (c.operands_fit.ensures
@@ -237,7 +232,7 @@ returns c =
     let i = c.args.i in
     let r : Read file i c.code_at-code.result c.width_at-w.result c.fields_at-fields.result c.new-uses.result =
     record { code_is = c.code_at-code.ensures; w_is = c.width_at-w.ensures; f_is = c.fields_at-fields.ensures; u_is = c.new-uses.ensures } in
-    let l1 = past_kind file i c.code_at-code.result c.code_at-code.ensures c.if-code-ge-KINDS.false in
+    let l1 = past_kind file i c.code_at-code.result c.code_at-code.ensures (omega arith) in
     let t1 = sym (c.width_in_range.ensures ∙ width_test file i c.width_at-w.result c.width_at-w.ensures) ∙ c.if-not-width_in_range.false in
     let l2 = past_width file i l1 t1 in
     let t2 = sym (c.operands_fit.ensures

@@ -1,7 +1,7 @@
 -- `bits::arith::add` meets its contract: cutting the sum modulo 2^64 to w bits is cutting the sum.
 -- Assumes nothing.
 use Rattle.bits.proofs.Modulo.{cut_cut}
-use Rattle.std.proofs.Common.{ℕ, ◌+◌, ◌%◌, ◌^◌, ap, ◌∙◌, rules}
+use Rattle.std.proofs.Common.{ℕ, ◌+◌, ◌%◌, ◌^◌, ap, ◌∙◌}
 use Rattle.bits.proofs.arith.add.Goals as goal
 
 pub returns : goal.returns

@@ -4,7 +4,7 @@ use Rattle.std.proofs.Common.{◌≡◌, ℕ, ◌+◌, ◌*◌, ◌/◌, ◌%◌
 use native.Mathlib.Nat.{mod-one}
 use lib.Arith.{le-zero}
 use Rattle.bits.proofs.Modulo.{shift_in, cut_short, factors, multiples, product_step}
-use Rattle.bits.specs.Words.{cut, down, product_at}
+use Rattle.bits.specs.Words.{down}
 use Rattle.bits.proofs.arith.mul.Goals as goal
 
 -- bits are left, so their place lies within the word

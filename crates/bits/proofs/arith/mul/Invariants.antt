@@ -1,9 +1,6 @@
 -- `bits::arith::mul` meets its contract: after k bits of the smaller factor the sum is the product with these bits alone.
 -- Assumes nothing.
-use Rattle.std.proofs.Common.{◌≡◌, ℕ, ◌+◌, ◌*◌, ◌/◌, ◌%◌, ◌^◌, ◌<◌, ltb, sym, ap, ◌∙◌, ap₂, mod-lt, mul-zero, div-one, arith, lit<, shr-shr}
-use native.Mathlib.Nat.{mod-one}
-use lib.Arith.{le-zero}
-use Rattle.bits.proofs.Modulo.{shift_in, cut_short, factors, multiples, product_step}
+use Rattle.std.proofs.Common.{◌≡◌}
 use Rattle.bits.specs.Words.{cut, down, product_at}
 use Rattle.bits.proofs.arith.mul.Given as goal
 

@@ -1,7 +1,7 @@
 -- `bits::arith::shl` meets its contract: from 64 places on nothing stays in the word.
 -- Assumes nothing.
 use Rattle.bits.proofs.Modulo.{shift_away}
-use Rattle.std.proofs.Common.{sym, rules}
+use Rattle.std.proofs.Common.{sym}
 use Rattle.bits.proofs.arith.shl.Goals as goal
 
 pub returns-else-k-lt64 : goal.returns-else-k-lt64

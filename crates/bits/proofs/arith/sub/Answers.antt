@@ -1,7 +1,7 @@
 -- `bits::arith::sub` meets its contract: what y added to gives x is the difference, at 64 bits and so at w.
 -- Assumes nothing.
 use Rattle.bits.proofs.Modulo.{cut_cut, difference_only}
-use Rattle.std.proofs.Common.{ℕ, ◌+◌, ◌%◌, ◌^◌, sym, ap, ◌∙◌, rules}
+use Rattle.std.proofs.Common.{ℕ, ◌+◌, ◌%◌, ◌^◌, sym, ap, ◌∙◌}
 use Rattle.bits.proofs.arith.sub.Goals as goal
 
 pub returns : goal.returns

@@ -1,6 +1,6 @@
 -- `bits::mask::low_mask` meets its contract: a one moved up by n places, less 1.
 -- Assumes nothing.
-use Rattle.std.proofs.Common.{◌≡◌, ℕ, ◌-◌, ◌^◌, ◌≤◌, sym, ap, subst, arith, pow_pos, rules}
+use Rattle.std.proofs.Common.{◌≡◌, ℕ, ◌-◌, ◌^◌, ◌≤◌, sym, ap, subst, arith, pow_pos}
 use Rattle.bits.proofs.Shifts.{up_one}
 use Rattle.bits.proofs.mask.low_mask.Goals as goal
 
