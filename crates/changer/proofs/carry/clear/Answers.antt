@@ -3,8 +3,5 @@
 use Rattle.endian.proofs.ListLaws.{filled_all}
 use Rattle.changer.proofs.carry.clear.Goals as goal
 
--- ?? same_length : tie.Need-same-length invariant-loop decreases-loop
--- same_length c = c.before.loop.invariant.size
-
 pub returns : goal.returns
 returns c = filled_all c.loop-i.invariant c.loop-i-test.false

@@ -14,11 +14,6 @@ unfolding design_of
 loop-i-preserved c = let loop = c.loop-i in
     marking_next loop.invariant (let t = c.loop-i-test.true in let s = c.requires.size in omega arith) c.mark.ensures
 
--- ?? same_length : tie.Need-same-length invariant-loop decreases-loop
--- unfolding design_of
--- same_length c = let pre = c.before.before.before.before.before.requires in
---     c.before.loop.invariant.size ∙ sym pre.room
-
 pub returns : goal.returns
 unfolding design_of
 returns c = marking_all c.loop-i.invariant (let t = c.loop-i-test.false in let s = c.requires.size in omega arith)

@@ -34,10 +34,6 @@ overflow_add-count c = let pre = c.requires in
 pub loop-i-preserved : goal.loop-i-preserved
 loop-i-preserved c = numbering_next c.loop-i.invariant c.loop-i-test.true
 
--- ?? same_length : tie.Need-same-length invariant-loop decreases-loop
--- same_length c = let pre = c.before.before.before.before.before.before.before.before.before.requires in
---     c.before.loop.invariant.size ∙ sym pre.room
-
 pub returns : goal.returns
 unfolding design_of numbers_of
 returns c = record { count = numbering_count c.loop-i.invariant c.loop-i-test.false; numbers = numbering_all c.loop-i.invariant c.loop-i-test.false }

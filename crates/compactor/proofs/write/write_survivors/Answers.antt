@@ -16,9 +16,6 @@ loop-i-preserved c = let args = c.args in
     writing_next (design_of args.file.now) pre.0.accepted.sound args.list.now args.destination.now _ _ loop.i loop.invariant
     (let t = c.loop-i-test.true in let s = pre.0.size in omega arith) c.write_survivor.ensures
 
--- ?? same_length : tie.Need-same-length invariant-loop decreases-loop
--- same_length c = c.before.loop.invariant.size
-
 pub returns : goal.returns
 unfolding design_of
 returns c = let args = c.args in
