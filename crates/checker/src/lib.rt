@@ -12,8 +12,7 @@ use fit::widths::*;
 use fit::words::*;
 use netlist::layout::*;
 use netlist::record::{Record, Uses};
-use netlist::refusal::Refusal;
-use rules::{Checked, Verdict};
+use netlist::refusal::{Refusal, Refused};
 
 // The mark `PCN`, and the zero byte after the version.
 fn marked(file: &[u8]) -> bool
@@ -25,23 +24,23 @@ fn marked(file: &[u8]) -> bool
 
 // Rules 6 to 9, 15 and 10, for record i of n.
 #[tactic(auto, using(crate::proofs::VerdictLaws::kind_refused))]
-fn check_record(file: &[u8], n: usize, i: usize) -> Verdict
+fn check_record(file: &[u8], n: usize, i: usize) -> Result<(), Refusal>
     requires { (n ≡ count_of file.now) × (record_start n ≤ length file.now) × (i < n) }
     ensures { result ≡ first_broken (record_rules file.now i) }
 {
     let code = code_at(file, i);
     if Record::KINDS <= code {
-        return Verdict::Fail(Refusal::BadKind);
+        return Err(Refusal::BadKind);
     }
     let w = width_at(file, i);
     if !width_in_range(w) {
-        return Verdict::Fail(Refusal::BadWidth);
+        return Err(Refusal::BadWidth);
     }
     let fields = fields_at(file, i);
     let uses = Uses::new(code, fields);
     let role = uses.role;
     if !operands_fit(file, operand_limit(role, n, i), uses) {
-        return Verdict::Fail(Refusal::BadOperand);
+        return Err(Refusal::BadOperand);
     }
     if !widths_fit(
         code,
@@ -51,66 +50,61 @@ fn check_record(file: &[u8], n: usize, i: usize) -> Verdict
         width_at(file, uses.b),
         width_at(file, uses.c),
     ) {
-        return Verdict::Fail(Refusal::BadWidthRule);
+        return Err(Refusal::BadWidthRule);
     }
     if !multiplier_fits(code, w) {
-        return Verdict::Fail(Refusal::WideMultiplier);
+        return Err(Refusal::WideMultiplier);
     }
     if !fields_fit(fields, uses) {
-        return Verdict::Fail(Refusal::UnusedBit);
+        return Err(Refusal::UnusedBit);
     }
     if !words_fit(keep_at(file, i), uses.word, w) {
-        return Verdict::Fail(Refusal::UnusedBit);
+        return Err(Refusal::UnusedBit);
     }
-    Verdict::Pass
+    Ok(())
 }
 
 // Rules 1 to 5.
 #[tactic(auto, using(crate::proofs::VerdictLaws::version_refused, crate::proofs::VerdictLaws::many_refused))]
-fn check_header(file: &[u8]) -> Verdict
+fn check_header(file: &[u8]) -> Result<(), Refusal>
     ensures { result ≡ first_broken (header_rules file.now) }
 {
     if file.len() < HEADER {
-        return Verdict::Fail(Refusal::TooShort);
+        return Err(Refusal::TooShort);
     }
     if !marked(file) {
-        return Verdict::Fail(Refusal::BadMark);
+        return Err(Refusal::BadMark);
     }
     if version(file) != 1 {
-        return Verdict::Fail(Refusal::BadVersion);
+        return Err(Refusal::BadVersion);
     }
     let n = record_count(file);
     if Record::MAX_COUNT < n {
-        return Verdict::Fail(Refusal::TooManyRecords);
+        return Err(Refusal::TooManyRecords);
     }
     if file.len() != record_start(n) {
-        return Verdict::Fail(Refusal::BadLength);
+        return Err(Refusal::BadLength);
     }
-    Verdict::Pass
+    Ok(())
 }
 
 // The records in rising order.
-fn check_records(file: &[u8], n: usize) -> Checked
+fn check_records(file: &[u8], n: usize) -> Result<usize, Refused>
     requires { (n ≡ count_of file.now) × (record_start n ≤ length file.now) }
     ensures { result ≡ check_from file.now n 0 }
 {
-    let mut i: usize = 0;
-    while i < n {
-        match check_record(file, n, i) {
-            Verdict::Pass => {}
-            Verdict::Fail(r) => return Checked::Refused(r, i),
+    for i in 0..n {
+        if let Err(refusal) = check_record(file, n, i) {
+            return Err(refusal.at(i));
         }
-        i += 1;
     }
-    Checked::Accepted(n)
+    Ok(n)
 }
 
 // Whether a file is accepted, or the first refusal that applies.
-pub fn check(file: &[u8]) -> Checked
+pub fn check(file: &[u8]) -> Result<usize, Refused>
     ensures { result ≡ check_of file.now }
 {
-    match check_header(file) {
-        Verdict::Pass => check_records(file, record_count(file)),
-        Verdict::Fail(r) => Checked::Refused(r, 0),
-    }
+    check_header(file)?;
+    check_records(file, record_count(file))
 }

@@ -1,25 +1,32 @@
-// Why a call is refused, and the number of each refusal.
+// Why a call is refused, the number of each refusal, and a refused call's answer.
 // Nothing is asked of a caller.
 ghost use Rattle.std.specs.Prelude.{◌≡◌, ◌<◌};
-ghost use Rattle.netlist.specs.Refusals.{number_of};
+ghost use Rattle.netlist.specs.Refusals.{number_of, refused};
 
 #[derive(Clone, Copy)]
 pub enum Refusal {
-    TooShort,
-    BadMark,
-    BadVersion,
-    TooManyRecords,
-    BadLength,
-    BadKind,
-    BadWidth,
-    BadOperand,
-    BadWidthRule,
-    UnusedBit,
-    BadList,
-    WideWord,
-    BadDestination,
-    BadMask,
-    WideMultiplier,
+    TooShort = 1,
+    BadMark = 2,
+    BadVersion = 3,
+    TooManyRecords = 4,
+    BadLength = 5,
+    BadKind = 6,
+    BadWidth = 7,
+    BadOperand = 8,
+    BadWidthRule = 9,
+    UnusedBit = 10,
+    BadList = 11,
+    WideWord = 12,
+    BadDestination = 13,
+    BadMask = 14,
+    WideMultiplier = 15,
+}
+
+// What a refused call answers: the refusal, and the record that it is about.
+#[derive(Clone, Copy)]
+pub struct Refused {
+    pub refusal: Refusal,
+    pub at: usize,
 }
 
 impl Refusal {
@@ -27,22 +34,25 @@ impl Refusal {
         ensures number { result ≡ number_of self }
         ensures bound { result < 256 }
     {
-        match self {
-            Refusal::TooShort => 1,
-            Refusal::BadMark => 2,
-            Refusal::BadVersion => 3,
-            Refusal::TooManyRecords => 4,
-            Refusal::BadLength => 5,
-            Refusal::BadKind => 6,
-            Refusal::BadWidth => 7,
-            Refusal::BadOperand => 8,
-            Refusal::BadWidthRule => 9,
-            Refusal::UnusedBit => 10,
-            Refusal::BadList => 11,
-            Refusal::WideWord => 12,
-            Refusal::BadDestination => 13,
-            Refusal::BadMask => 14,
-            Refusal::WideMultiplier => 15,
+        self as u64
+    }
+
+    // This refusal of record i.
+    pub fn at(self, i: usize) -> Refused
+        ensures { result ≡ refused self i }
+    {
+        Refused {
+            refusal: self,
+            at: i,
         }
+    }
+}
+
+// A refusal that is about no record names record 0.
+impl From<Refusal> for Refused {
+    ghost from_gives = { λ refusal result. result ≡ refused refusal 0 };
+
+    fn from(refusal: Refusal) -> Refused {
+        refusal.at(0)
     }
 }

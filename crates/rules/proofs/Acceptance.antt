@@ -8,26 +8,24 @@ use Prim.Native.Nat.{ℕ, zero, suc, ◌+◌, ◌≤◌, ◌<◌}
 use native.Mathlib.Nat.{eq-or-lt_of_le}
 use native.Mathlib.Omega.{arith}
 use lib.ListN.{length}
+use Rattle.std.specs.Prelude.{Result, Ok, Err}
 use Rattle.netlist.specs.Kinds.{is_multiplier, uses_of}
 use Rattle.netlist.specs.Limits.{max_count, max_multiplier_width, kind_count}
 use Rattle.netlist.specs.Layout.{design_of, record_at, code_at, fields_at, count_of, record_start, record_size}
 use Rattle.netlist.specs.Rules.{at_most, AllHold}
 use Rattle.netlist.specs.declared.refusal.Refusal.{Refusal}
+use Rattle.netlist.specs.declared.refusal.Refused.{Refused}
 use Rattle.rules.specs.Fit.{field_rules, word_rules}
 use Rattle.rules.specs.Check.{check_of, check_from, refuse_at, first_broken, header_rules, record_rules}
 use Rattle.rules.specs.Sound.{SoundRecord, Acceptance}
 use Rattle.rules.specs.Lent.{Lent}
-use Rattle.rules.specs.declared.Checked.{Checked}
-use Rattle.rules.specs.declared.Checked.TheVariants.{Accepted, Refused}
-use Rattle.rules.specs.declared.Verdict.{Verdict}
-use Rattle.rules.specs.declared.Verdict.TheVariants.{Pass, Fail}
 use Rattle.rules.proofs.CheckLaws.{Kept, pass_kept, kept_pass}
 
 -- a step that ends in acceptance passed, and so did what follows
-past_refusal : (i n : ℕ) (v : Verdict) (next : Checked) → refuse_at i v next ≡ Accepted n → (v ≡ Pass) × (next ≡ Accepted n)
+past_refusal : (i n : ℕ) (v : Result (Unit {0}) Refusal) (next : Result ℕ Refused) → refuse_at i v next ≡ Ok n → (v ≡ Ok tt) × (next ≡ Ok n)
 unfolding refuse_at
-past_refusal i n Pass next e = (refl, e)
-past_refusal i n (Fail r) next e = absurd (let z : ◌≡◌ {A = ℕ} 0 1 = cc in omega arith)
+past_refusal i n (Ok kept) next e = (refl, e)
+past_refusal i n (Err r) next e = absurd (let z : ◌≡◌ {A = ℕ} 0 1 = cc in omega arith)
 
 -- of the records from i on, the i-th or one of the later ones
 this_or_later : (file : List ℕ) (i j : ℕ) → Kept (record_rules file i) → (i < j → Kept (record_rules file j)) → (i ≡ j) ⊎ (i < j) → Kept (record_rules file j)
@@ -35,7 +33,7 @@ this_or_later file i j this later (inl e) = subst (λ (k : ℕ). Kept (record_ru
 this_or_later file i j this later (inr h) = later h
 
 -- each record of an accepted file keeps its rules
-each_kept : (file : List ℕ) (n left i : ℕ) → check_from file left i ≡ Accepted n → (j : ℕ) → i ≤ j → j < i + left → Kept (record_rules file j)
+each_kept : (file : List ℕ) (n left i : ℕ) → check_from file left i ≡ Ok n → (j : ℕ) → i ≤ j → j < i + left → Kept (record_rules file j)
 unfolding check_from
 each_kept file n zero i e j h g = absurd (let z : ◌≡◌ {A = ℕ} 0 1 = omega arith in omega arith)
 each_kept file n (suc left) i e j h g =
@@ -43,7 +41,7 @@ each_kept file n (suc left) i e j h g =
     this_or_later file i j (pass_kept (record_rules file i) both.0) (λ p. each_kept file n left (suc i) both.1 j p (omega arith)) (eq-or-lt_of_le h)
 
 -- the end of the records answers the count
-accepted_count : (file : List ℕ) (n left i : ℕ) → check_from file left i ≡ Accepted n → n ≡ count_of file
+accepted_count : (file : List ℕ) (n left i : ℕ) → check_from file left i ≡ Ok n → n ≡ count_of file
 unfolding check_from
 accepted_count file n zero i e = let p : count_of file ≡ n = cc in sym p
 accepted_count file n (suc left) i e =
@@ -55,7 +53,7 @@ pub record AllKept (file : List ℕ) : Type 0 where
   pub each : (i : ℕ) → i < count_of file → Kept (record_rules file i)
 
 -- a file is accepted just where all rules are kept
-pub accepted_kept : (file : List ℕ) (n : ℕ) → check_of file ≡ Accepted n → AllKept file
+pub accepted_kept : (file : List ℕ) (n : ℕ) → check_of file ≡ Ok n → AllKept file
 unfolding check_of
 accepted_kept file n e =
     let both = past_refusal 0 n (first_broken (header_rules file)) (check_from file (count_of file) 0) e in
@@ -64,17 +62,17 @@ accepted_kept file n e =
       each = λ i h. each_kept file n (count_of file) 0 both.1 i (omega arith) (omega arith);
     }
 
-all_accepted : (file : List ℕ) (left i : ℕ) → ((j : ℕ) → i ≤ j → j < i + left → Kept (record_rules file j)) → check_from file left i ≡ Accepted (count_of file)
+all_accepted : (file : List ℕ) (left i : ℕ) → ((j : ℕ) → i ≤ j → j < i + left → Kept (record_rules file j)) → check_from file left i ≡ Ok (count_of file)
 unfolding check_from refuse_at
 all_accepted file zero i kept = refl
 all_accepted file (suc left) i kept =
-    ap (λ (v : Verdict). refuse_at i v (check_from file left (suc i))) (sym (kept_pass (record_rules file i) (kept i (omega arith) (omega arith))))
+    ap (λ (v : Result (Unit {0}) Refusal). refuse_at i v (check_from file left (suc i))) (sym (kept_pass (record_rules file i) (kept i (omega arith) (omega arith))))
     ∙ all_accepted file left (suc i) (λ j h g. kept j (omega arith) (omega arith))
 
-pub kept_accepted : (file : List ℕ) → AllKept file → check_of file ≡ Accepted (count_of file)
+pub kept_accepted : (file : List ℕ) → AllKept file → check_of file ≡ Ok (count_of file)
 unfolding check_of refuse_at
 kept_accepted file k =
-    ap (λ (v : Verdict). refuse_at 0 v (check_from file (count_of file) 0)) (sym (kept_pass (header_rules file) k.header))
+    ap (λ (v : Result (Unit {0}) Refusal). refuse_at 0 v (check_from file (count_of file) 0)) (sym (kept_pass (header_rules file) k.header))
     ∙ all_accepted file (count_of file) 0 (λ j h g. k.each j (omega arith))
 
 -- what the rules of record i say: it has the number of a kind, it is sound, and its fields are those that its kind uses
@@ -108,7 +106,7 @@ module _ (file : List ℕ) (i : ℕ) where
       let r = f.sound in
       ((f.code, tt), ((r.positive, (r.narrow, tt)), (r.operands, (r.widths, (r.multiplier, (f.fields, ((r.keep, (r.word, tt)), tt)))))))
 
-pub accepted : (file : List ℕ) (n : ℕ) → check_of file ≡ Accepted n → Acceptance file n
+pub accepted : (file : List ℕ) (n : ℕ) → check_of file ≡ Ok n → Acceptance file n
 unfolding check_of header_rules design_of
 accepted file n e =
     let kept = accepted_kept file n e in
@@ -123,7 +121,7 @@ accepted file n e =
     }
 
 -- "Files so refused are no longer accepted designs": no multiplier of an accepted file is wider than 32 bits
-pub multiplier_narrow : (file : List ℕ) (n : ℕ) → check_of file ≡ Accepted n → (i : ℕ) → i < n → is_multiplier (record_at file i).kind ≡ true
+pub multiplier_narrow : (file : List ℕ) (n : ℕ) → check_of file ≡ Ok n → (i : ℕ) → i < n → is_multiplier (record_at file i).kind ≡ true
     → (record_at file i).width ≤ max_multiplier_width
 unfolding design_of
 multiplier_narrow file n e i h p =
@@ -148,23 +146,28 @@ few file n a = let f = a.sound.few in let e = a.count in omega arith
 pub holds_record : (file : List ℕ) → Acceptance file (count_of file) → (i : ℕ) → i < count_of file → record_start i + record_size ≤ length file
 holds_record file a i h = let s = a.size in omega arith
 
--- a refusal names a record below the limit of records
-refused_record : (file : List ℕ) (r : Refusal) (j left i : ℕ) → check_from file left i ≡ Refused r j → j < i + left
-unfolding check_from refuse_at
-refused_record file r j zero i e = absurd (let z : ◌≡◌ {A = ℕ} 0 1 = cc in omega arith)
-refused_record file r j (suc left) i e = go (first_broken (record_rules file i)) e (refused_record file r j left (suc i))
-  where
-    go : (v : Verdict) → refuse_at i v (check_from file left (suc i)) ≡ Refused r j → (check_from file left (suc i) ≡ Refused r j → j < suc i + left) → j < i + suc left
-    go Pass e later = let h = later e in omega arith
-    go (Fail s) e later = let p : i ≡ j = cc in omega arith
+-- the record that a refusal names, and 0 for an accepted file
+abbrev at_of : Result ℕ Refused → ℕ
+at_of (Ok n) = 0
+at_of (Err r) = r.at
 
-pub refused_low : (file : List ℕ) (r : Refusal) (j : ℕ) → check_of file ≡ Refused r j → j < max_count
-unfolding check_of refuse_at header_rules
-refused_low file r j e = go (first_broken (header_rules file)) refl e
+-- a refusal names a record below the limit of records
+refused_record : (file : List ℕ) (r : Refused) (left i : ℕ) → check_from file left i ≡ Err r → r.at < i + left
+unfolding check_from refuse_at
+refused_record file r zero i e = absurd (let z : ◌≡◌ {A = ℕ} 0 1 = cc in omega arith)
+refused_record file r (suc left) i e = go (first_broken (record_rules file i)) e (refused_record file r left (suc i))
   where
-    go : (v : Verdict) → first_broken (header_rules file) ≡ v → refuse_at 0 v (check_from file (count_of file) 0) ≡ Refused r j → j < max_count
-    go Pass q e =
-        let h = refused_record file r j (count_of file) 0 e in
+    go : (v : Result (Unit {0}) Refusal) → refuse_at i v (check_from file left (suc i)) ≡ Err r → (check_from file left (suc i) ≡ Err r → r.at < suc i + left) → r.at < i + suc left
+    go (Ok kept) e later = let h = later e in omega arith
+    go (Err s) e later = let p : i ≡ r.at = ap at_of e in omega arith
+
+pub refused_low : (file : List ℕ) (r : Refused) → check_of file ≡ Err r → r.at < max_count
+unfolding check_of refuse_at header_rules
+refused_low file r e = go (first_broken (header_rules file)) refl e
+  where
+    go : (v : Result (Unit {0}) Refusal) → first_broken (header_rules file) ≡ v → refuse_at 0 v (check_from file (count_of file) 0) ≡ Err r → r.at < max_count
+    go (Ok kept) q e =
+        let h = refused_record file r (count_of file) 0 e in
         let few = (pass_kept (header_rules file) q).1.1.1.0.0 in
         omega arith
-    go (Fail s) q e = let p : 0 ≡ j = cc in omega arith
+    go (Err s) q e = let p : 0 ≡ r.at = ap at_of e in omega arith

@@ -8,6 +8,7 @@ use native.Mathlib.Numerals.{add-one}
 use native.Mathlib.Omega.{arith}
 use lib.ListN.{length, get_or}
 use lib.Seq.{ext_get_or}
+use Rattle.std.specs.Prelude.{Ok}
 use Rattle.endian.specs.Bytes.{number_at, bytes}
 use Rattle.netlist.specs.Kinds.{code_of, uses_of}
 use Rattle.netlist.specs.Layout.{design_of, record_at, code_at, width_at, fields_at, keep_at, count_of, byte_at, record_start}
@@ -15,7 +16,6 @@ use Rattle.netlist.proofs.KindLaws.{code_back}
 use Rattle.rules.specs.Fit.{field_rules}
 use Rattle.rules.specs.Check.{check_of, header_rules, record_rules}
 use Rattle.rules.specs.Encode.{header_bytes, encode, encode_from, encode_record, AreBytes}
-use Rattle.rules.specs.declared.Checked.TheVariants.{Accepted}
 use Rattle.rules.proofs.Acceptance.{accepted, accepted_kept, rule_facts}
 use Rattle.rules.proofs.CheckLaws.{Kept}
 use Rattle.rules.proofs.EncodedBytes.{length_record, length_encode}
@@ -97,7 +97,7 @@ module _ (file : List ℕ) where
       (stands_cons 5 0 _ mark.1.1.1.0 (stands_number b 6 2 (count_of file) refl)))))
 
 -- every accepted file is the encoding of the design that it holds
-pub canonical : (file : List ℕ) (n : ℕ) → AreBytes file → check_of file ≡ Accepted n → file ≡ encode (design_of file)
+pub canonical : (file : List ℕ) (n : ℕ) → AreBytes file → check_of file ≡ Ok n → file ≡ encode (design_of file)
 unfolding encode design_of
 canonical file n b e =
     let kept = accepted_kept file n e in

@@ -7,6 +7,7 @@ use Prim.Native.Nat.{ℕ, suc, ◌+◌, ◌-◌, ◌^◌, ◌≤◌, ◌<◌}
 use native.Mathlib.Nat.{le_refl}
 use native.Mathlib.Numerals.{add-one}
 use native.Mathlib.Omega.{arith}
+use Rattle.std.specs.Prelude.{Result, Ok, Err}
 use Rattle.netlist.specs.Kinds.{kind_of, operands_of, uses_of, width_rules}
 use Rattle.netlist.specs.Layout.{design_of, record_at, count_of, code_at, width_at, fields_at, keep_at}
 use Rattle.netlist.specs.Refusals.{number_of}
@@ -19,8 +20,6 @@ use Rattle.netlist.specs.declared.record.Uses.{Uses}
 use Rattle.netlist.proofs.Tests.{tests_hold, hold_tests}
 use Rattle.rules.specs.Fit.{operand_limit, names_rules, operand_rules, width_rules_at, word_rules}
 use Rattle.rules.specs.Check.{header_rules, record_rules, first_broken, refuse_at, check_from}
-use Rattle.rules.specs.declared.Verdict.{Verdict}
-use Rattle.rules.specs.declared.Verdict.TheVariants.{Pass, Fail}
 
 -- "What is refused, in checking order": the refusals are tried in the order of their numbers, but for 15, "directly after 9"
 abbrev pub numbers_of : List (Refusal × List Rule) → List ℕ
@@ -36,15 +35,15 @@ unfolding record_rules
 record_order file i = refl
 
 -- rules that hold leave the verdict to those after them; rules that do not are the verdict
-pub holding : (e : Refusal × List Rule) (es : List (Refusal × List Rule)) {v : Verdict} → test_all e.1 ≡ true → v ≡ first_broken es → v ≡ first_broken (e ∷ es)
+pub holding : (e : Refusal × List Rule) (es : List (Refusal × List Rule)) {v : Result (Unit {0}) Refusal} → test_all e.1 ≡ true → v ≡ first_broken es → v ≡ first_broken (e ∷ es)
 unfolding first_broken
-holding e es p q = q ∙ ap (λ (t : Bool). cond t (first_broken es) (Fail e.0)) (sym p)
+holding e es p q = q ∙ ap (λ (t : Bool). cond t (first_broken es) (Err e.0)) (sym p)
 
-pub broken : (e : Refusal × List Rule) (es : List (Refusal × List Rule)) → test_all e.1 ≡ false → Fail e.0 ≡ first_broken (e ∷ es)
+pub broken : (e : Refusal × List Rule) (es : List (Refusal × List Rule)) → test_all e.1 ≡ false → Err e.0 ≡ first_broken (e ∷ es)
 unfolding first_broken
-broken e es p = ap (λ (t : Bool). cond t (first_broken es) (Fail e.0)) (sym p)
+broken e es p = ap (λ (t : Bool). cond t (first_broken es) (Err e.0)) (sym p)
 
-pub none_broken : Pass ≡ first_broken []
+pub none_broken : Ok tt ≡ first_broken []
 unfolding first_broken
 none_broken = refl
 
@@ -53,16 +52,16 @@ abbrev pub Kept : List (Refusal × List Rule) → Type 0
 Kept [] = Unit {0}
 Kept (e ∷ es) = AllHold e.1 × Kept es
 
-pub pass_kept : (es : List (Refusal × List Rule)) → first_broken es ≡ Pass → Kept es
+pub pass_kept : (es : List (Refusal × List Rule)) → first_broken es ≡ Ok tt → Kept es
 unfolding first_broken
 pass_kept [] p = tt
 pass_kept (e ∷ es) p = go (test_all e.1) refl p (pass_kept es)
   where
-    go : (t : Bool) → test_all e.1 ≡ t → cond t (first_broken es) (Fail e.0) ≡ Pass → (first_broken es ≡ Pass → Kept es) → Kept (e ∷ es)
+    go : (t : Bool) → test_all e.1 ≡ t → cond t (first_broken es) (Err e.0) ≡ Ok tt → (first_broken es ≡ Ok tt → Kept es) → Kept (e ∷ es)
     go true q p rest = (tests_hold e.1 q, rest p)
     go false q p rest = absurd (let z : ◌≡◌ {A = ℕ} 0 1 = cc in omega arith)
 
-pub kept_pass : (es : List (Refusal × List Rule)) → Kept es → Pass ≡ first_broken es
+pub kept_pass : (es : List (Refusal × List Rule)) → Kept es → Ok tt ≡ first_broken es
 kept_pass [] k = none_broken
 kept_pass (e ∷ es) k = holding e es (hold_tests e.1 k.0) (kept_pass es k.1)
 

@@ -6,6 +6,7 @@ use Prim.Native.Nat.{ℕ, zero, suc, ◌+◌, ◌≤◌, ◌<◌}
 use native.Mathlib.Nat.{add-zero}
 use native.Mathlib.Omega.{arith}
 use lib.Dec.{lit<}
+use Rattle.std.specs.Prelude.{Ok}
 use Rattle.endian.specs.Bytes.{bytes}
 use Rattle.endian.proofs.LittleEndian.{number_at_bytes, bytes_low}
 use Rattle.netlist.specs.Kinds.{code_of, uses_of}
@@ -17,7 +18,6 @@ use Rattle.rules.specs.Fit.{field_rules}
 use Rattle.rules.specs.Check.{check_of, header_rules, record_rules}
 use Rattle.rules.specs.Encode.{header_bytes, encode, encode_from, encode_record, AreBytes, StandsFor}
 use Rattle.rules.specs.Sound.{Sound, SameDesign}
-use Rattle.rules.specs.declared.Checked.TheVariants.{Accepted}
 use Rattle.rules.proofs.Acceptance.{kept_accepted, facts_rules}
 use Rattle.rules.proofs.CheckLaws.{Kept}
 use Rattle.rules.proofs.EncodedBytes.{length_encode, byte_encode, number_encode}
@@ -99,9 +99,9 @@ module _ (d : Design) (s : Sound d) where
       let low = code_low (d.at i).kind in
       facts_rules (encode d) i (record { code = omega arith; sound = record_same d (design_of (encode d)) same_back s i h; fields = fields_kept i h })
 
-  check_back : check_of (encode d) ≡ Accepted d.count
+  check_back : check_of (encode d) ≡ Ok d.count
   check_back =
-      kept_accepted (encode d) (record { header = header_kept; each = λ i h. record_kept i (let n = count_back in omega arith) }) ∙ ap Accepted count_back
+      kept_accepted (encode d) (record { header = header_kept; each = λ i h. record_kept i (let n = count_back in omega arith) }) ∙ ap Ok count_back
 
   -- every element of the file is a byte
   record_bytes : (i : ℕ) → i < d.count → AreBytes (encode_record (d.at i))

@@ -1,17 +1,15 @@
 -- What is refused, in checking order, and the answer of a check.
 -- Assumes nothing.
-use Rattle.std.specs.Prelude.{cond, List, [], ◌∷◌, ℕ, zero, suc, ◌+◌, ◌*◌, length}
+use Rattle.std.specs.Prelude.{cond, List, [], ◌∷◌, ℕ, zero, suc, ◌+◌, ◌*◌, Result, Ok, Err, length}
 use Rattle.netlist.specs.Kinds.{uses_of}
 use Rattle.netlist.specs.Limits.{max_count, kind_count}
 use Rattle.netlist.specs.Layout.{design_of, header_size, record_size, byte_at, version_of, count_of, code_at, fields_at}
 use Rattle.netlist.specs.Rules.{Rule, equal, below, at_most, test_all}
+use Rattle.netlist.specs.Refusals.{refused}
 use Rattle.netlist.specs.declared.refusal.Refusal.{Refusal}
 use Rattle.netlist.specs.declared.refusal.Refusal.TheVariants.{TooShort, BadMark, BadVersion, TooManyRecords, BadLength, BadKind, BadWidth, BadOperand, BadWidthRule, UnusedBit, WideMultiplier}
+use Rattle.netlist.specs.declared.refusal.Refused.{Refused}
 use Rattle.rules.specs.Fit.{width_range, operand_rules, width_rules_at, multiplier_rules, field_rules, word_rules}
-use Rattle.rules.specs.declared.Checked.{Checked}
-use Rattle.rules.specs.declared.Checked.TheVariants.{Accepted, Refused}
-use Rattle.rules.specs.declared.Verdict.{Verdict}
-use Rattle.rules.specs.declared.Verdict.TheVariants.{Pass, Fail}
 
 -- 2: "The mark is not `PCN`, or byte 5 is not zero."
 abbrev pub mark_rules : List ℕ → List Rule
@@ -42,20 +40,20 @@ record_rules file i =
     ∷ []
 
 -- The first refusal whose rules do not all hold.
-unfoldable pub first_broken : List (Refusal × List Rule) → Verdict
-first_broken [] = Pass
-first_broken (e ∷ es) = cond (test_all e.1) (first_broken es) (Fail e.0)
+unfoldable pub first_broken : List (Refusal × List Rule) → Result (Unit {0}) Refusal
+first_broken [] = Ok tt
+first_broken (e ∷ es) = cond (test_all e.1) (first_broken es) (Err e.0)
 
--- "The answer is the number and the record": what a failed verdict on record i answers, and else what comes next.
-unfoldable pub refuse_at : ℕ → Verdict → Checked → Checked
-refuse_at i Pass next = next
-refuse_at i (Fail r) next = Refused r i
+-- "The answer is the number and the record": what a broken rule of record i answers, and else what comes next.
+unfoldable pub refuse_at : ℕ → Result (Unit {0}) Refusal → Result ℕ Refused → Result ℕ Refused
+refuse_at i (Ok kept) next = next
+refuse_at i (Err r) next = Err (refused r i)
 
 -- "and records in rising order": the records from i on, `left` of them.
-unfoldable pub check_from : List ℕ → ℕ → ℕ → Checked
-check_from file zero i = Accepted (count_of file)
+unfoldable pub check_from : List ℕ → ℕ → ℕ → Result ℕ Refused
+check_from file zero i = Ok (count_of file)
 check_from file (suc left) i = refuse_at i (first_broken (record_rules file i)) (check_from file left (suc i))
 
 -- The answer of check: "the record is 0 outside 6 to 10 and 12", of which 12 is no refusal of a file; 15 comes "with its record".
-unfoldable pub check_of : List ℕ → Checked
+unfoldable pub check_of : List ℕ → Result ℕ Refused
 check_of file = refuse_at 0 (first_broken (header_rules file)) (check_from file (count_of file) 0)

@@ -1,13 +1,12 @@
 -- The file that a design makes.
 -- Assumes nothing.
-use Rattle.std.specs.Prelude.{◌≡◌, List, [], ◌∷◌, ◌++◌, ℕ, zero, suc, ◌<◌}
+use Rattle.std.specs.Prelude.{◌≡◌, List, [], ◌∷◌, ◌++◌, ℕ, zero, suc, ◌<◌, Ok}
 use Rattle.endian.specs.Bytes.{bytes}
 use Rattle.netlist.specs.Kinds.{code_of, uses_of}
 use Rattle.netlist.specs.Layout.{Design, design_of, byte_at}
 use Rattle.netlist.specs.declared.record.Record.{Record}
 use Rattle.rules.specs.Check.{check_of}
 use Rattle.rules.specs.Sound.{SameDesign}
-use Rattle.rules.specs.declared.Checked.TheVariants.{Accepted}
 
 -- The 24 bytes of a record, with 0 in the fields that its kind does not use.
 unfoldable pub encode_record : Record → List ℕ
@@ -35,5 +34,5 @@ pub record AreBytes (l : List ℕ) : Type 0 where
 -- A file stands for a design: it is made of bytes, check accepts it, and it holds that design.
 pub record StandsFor (file : List ℕ) (d : Design) : Type 0 where
   pub bytes : AreBytes file
-  pub accepted : check_of file ≡ Accepted d.count
+  pub accepted : check_of file ≡ Ok d.count
   pub same : SameDesign d (design_of file)

@@ -8,23 +8,24 @@ use native.Mathlib.Omega.{arith}
 use lib.Dec.{ltb}
 use lib.ListN.{length, drop, get_or}
 use borrow.Author.Tests.{lt-ltb}
+use Rattle.std.specs.Prelude.{Result}
 use Rattle.netlist.specs.Kinds.{kind_of, operands_of, uses_of}
 use Rattle.netlist.specs.Layout.{design_of, record_at, record_start, record_size, fields_at, code_at, width_at}
 use Rattle.netlist.specs.Limits.{kind_count}
 use Rattle.netlist.specs.Rules.{test_all}
 use Rattle.netlist.specs.declared.record.Fields.{Fields}
 use Rattle.netlist.specs.declared.record.Uses.{Uses}
+use Rattle.netlist.specs.declared.refusal.Refusal.{Refusal}
 use Rattle.netlist.proofs.KindLaws.{padded, Padded}
 use Rattle.rules.specs.Fit.{width_range, multiplier_rules, field_rules, width_rules_at, operand_rules, operand_limit, names_rules}
 use Rattle.rules.specs.Check.{first_broken, record_rules}
-use Rattle.rules.specs.declared.Verdict.{Verdict}
 use Rattle.rules.proofs.OperandLaws.{operand_below}
 use Rattle.rules.proofs.CheckLaws.{holding, broken, none_broken, limit_le, operand_rules_are, width_rules_are, word_rules_are}
 use Rattle.checker.proofs.check_record.Goals as goal
 
 -- a verdict is that of the record's rules if it is that of those from the n-th on
 Leaves : List ℕ → ℕ → ℕ → Type 0
-Leaves file i n = (v : Verdict) → v ≡ first_broken (drop n (record_rules file i)) → v ≡ first_broken (record_rules file i)
+Leaves file i n = (v : Result (Unit {0}) Refusal) → v ≡ first_broken (drop n (record_rules file i)) → v ≡ first_broken (record_rules file i)
 
 -- what has been read of a record
 record Read (file : List ℕ) (i code w : ℕ) (f : Fields) (u : Uses) : Type 0 where

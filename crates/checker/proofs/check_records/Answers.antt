@@ -1,36 +1,29 @@
 -- `checker::check_records` meets its contract: the records before i passed, so the answer is that of the records from i on.
 -- Assumes nothing.
-use mathlib.Core.Path.{◌≡◌, sym, ap, ◌∙◌}
-use Prim.Native.Nat.{ℕ, ◌+◌, ◌-◌}
-use native.Mathlib.Omega.{arith}
-use Rattle.rules.specs.declared.Checked.TheVariants.{Accepted}
-use Rattle.rules.specs.declared.Verdict.{Verdict}
-use Rattle.rules.specs.Check.{refuse_at, check_from}
+use Rattle.std.proofs.Common.{◌≡◌, ℕ, ◌+◌, ◌-◌, ◌<◌, List, Result, Ok, Err, sym, ap, ◌∙◌, arith}
+use Rattle.netlist.specs.declared.refusal.Refusal.{Refusal}
+use Rattle.rules.specs.Check.{first_broken, record_rules, refuse_at, check_from}
 use Rattle.rules.proofs.CheckLaws.{check_step}
 use Rattle.checker.proofs.check_records.Goals as goal
 
-pub returns-in-Fail : goal.returns-in-Fail
+-- the answer of the records from i on, by what record i comes to
+next : (file : List ℕ) (n i : ℕ) {v : Result (Unit {0}) Refusal} → i < n → check_from file n 0 ≡ check_from file (n - i) i
+    → v ≡ first_broken (record_rules file i) → refuse_at i v (check_from file (n - (i + 1)) (i + 1)) ≡ check_from file n 0
+next file n i h e p =
+    sym (e ∙ check_step file n i h ∙ ap (λ (v : Result (Unit {0}) Refusal). refuse_at i v (check_from file (n - (i + 1)) (i + 1))) (sym p))
+
+pub returns-in-Err : goal.returns-in-Err
 unfolding refuse_at
-returns-in-Fail c = let a = c.args in
-    let l = c.loop-i in
-    let rest = check_from a.file.now (a.n - (l.i + 1)) (l.i + 1) in
-    sym
-    (l.invariant.1 ∙ check_step a.file.now a.n l.i c.loop-i-test.true
-    ∙ ap (λ (v : Verdict). refuse_at l.i v rest) (sym c.check_record.ensures ∙ c.in-Fail.is))
+returns-in-Err c =
+    ap Err c.at.ensures ∙ next c.args.file.now c.args.n c.loop-i.i c.loop-i-test.true c.loop-i.invariant c.in-Err.ensures
 
 pub loop-i-preserved : goal.loop-i-preserved
 unfolding refuse_at
-loop-i-preserved c = let a = c.args in
-    let l = c.loop-i in
-    let rest = check_from a.file.now (a.n - (l.i + 1)) (l.i + 1) in (
-      omega arith,
-      l.invariant.1 ∙ check_step a.file.now a.n l.i c.loop-i-test.true
-          ∙ ap (λ (v : Verdict). refuse_at l.i v rest) (sym c.check_record.ensures ∙ c.in-Pass.is),
-    )
+loop-i-preserved c = sym (next c.args.file.now c.args.n c.loop-i.i c.loop-i-test.true c.loop-i.invariant c.in_default.ensures)
 
 pub returns : goal.returns
 unfolding check_from
 returns c = let a = c.args in
-    let l = c.loop-i in
-    let e : a.n - l.i ≡ 0 = omega arith in
-    sym (l.invariant.1 ∙ ap (λ (m : ℕ). check_from a.file.now m l.i) e ∙ ap Accepted (sym c.requires.0))
+    let i = c.loop-i.i in
+    let e : a.n - i ≡ 0 = omega arith in
+    sym (c.loop-i.invariant ∙ ap (λ (m : ℕ). check_from a.file.now m i) e ∙ ap Ok (sym c.requires.0))
