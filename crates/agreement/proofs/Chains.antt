@@ -3,8 +3,8 @@
 use mathlib.Core.Path.{◌≡◌, refl}
 use mathlib.Core.List.{List, [], ◌∷◌, ◌++◌}
 use Prim.Native.Nat.{ℕ, suc}
-use Rattle.clock.specs.declared.Clocked.{Clocked}
-use Rattle.clock.specs.declared.Clocked.TheVariants.{Done, Refused}
+use Rattle.std.specs.Prelude.{Result, Ok, Err}
+use Rattle.netlist.specs.declared.refusal.Refused.{Refused}
 use Rattle.agreement.specs.Runs.{Machine, Call, start, cycle, Cycle, Step, started, cycled, Outcome, call_on, run_from}
 use Rattle.agreement.proofs.RunLaws.{start_moves, cycle_moves, start_stays, cycle_stays}
 
@@ -12,13 +12,13 @@ use Rattle.agreement.proofs.RunLaws.{start_moves, cycle_moves, start_stays, cycl
 pub record CycledFrom {L : Type 0} (machine : Machine L) (board : L) (c : Cycle L) : Type 0 where
   pub call : ℕ
   pub next : L
-  pub accepted : (machine.cycle call c.words board next).answer ≡ Done
+  pub accepted : (machine.cycle call c.words board next).answer ≡ Ok tt
   pub values : c.values ≡ (machine.cycle call c.words board next).board
 
 module _ {L : Type 0} (machine : Machine L) where
   abbrev pub Chain : L → List (Step L) → Type 0
   Chain board [] = Unit {0}
-  Chain board (started ∷ steps) = ((machine.start board).answer ≡ Done) × Chain (machine.start board).board steps
+  Chain board (started ∷ steps) = ((machine.start board).answer ≡ (Ok tt)) × Chain (machine.start board).board steps
   Chain board (cycled c ∷ steps) =
       (s : CycledFrom machine board c) × Chain (machine.cycle s.call c.words board s.next).next steps
 
@@ -27,15 +27,15 @@ module _ {L : Type 0} (machine : Machine L) where
     abbrev On : Outcome L → Type 0
     On done = Chain board (done.steps ++ run_from machine (suc j) done.board calls)
 
-    start_link : (a : Clocked) → (machine.start board).answer ≡ a → On (call_on machine j board start)
-    start_link Done e = rw (start_moves machine j board e) (e, rest (machine.start board).board)
-    start_link (Refused r i) e = rw (start_stays machine j board r i e) (rest board)
+    start_link : (a : Result (Unit {0}) Refused) → (machine.start board).answer ≡ a → On (call_on machine j board start)
+    start_link (Ok done) e = rw (start_moves machine j board e) (e, rest (machine.start board).board)
+    start_link (Err r) e = rw (start_stays machine j board r e) (rest board)
 
-    cycle_link : (words : ℕ → ℕ) (next : L) (a : Clocked) → (machine.cycle j words board next).answer ≡ a → On (call_on machine j board (cycle words next))
-    cycle_link words next Done e =
+    cycle_link : (words : ℕ → ℕ) (next : L) (a : Result (Unit {0}) Refused) → (machine.cycle j words board next).answer ≡ a → On (call_on machine j board (cycle words next))
+    cycle_link words next (Ok tt) e =
         rw (cycle_moves machine j board words next e)
         (record { call = j; next = next; accepted = e; values = refl }, rest (machine.cycle j words board next).next)
-    cycle_link words next (Refused r i) e = rw (cycle_stays machine j board words next r i e) (rest board)
+    cycle_link words next (Err r) e = rw (cycle_stays machine j board words next r e) (rest board)
 
   pub chain_of : (j : ℕ) (board : L) (calls : List (Call L)) → Chain board (run_from machine j board calls)
   unfolding run_from

@@ -5,6 +5,7 @@ use mathlib.Core.List.{List}
 use Prim.Native.Nat.{ℕ}
 use lib.Bits.{bit_and}
 use lib.ListN.{length, take}
+use Rattle.std.specs.Prelude.{Ok}
 use Rattle.endian.specs.Lists.{word_at, words_of}
 use Rattle.endian.proofs.ListLaws.{words_of-word_at}
 use Rattle.bits.specs.Masks.{Agree}
@@ -13,13 +14,11 @@ use Rattle.bits.proofs.Order.{meet_left, meet_right}
 use Rattle.netlist.specs.Layout.{Design, design_of}
 use Rattle.netlist.specs.declared.record.Role.{Role}
 use Rattle.rules.specs.Check.{check_of}
-use Rattle.rules.specs.declared.Checked.TheVariants.{Accepted}
 use Rattle.rules.proofs.Acceptance.{accepted}
 use Rattle.care.specs.Least.{mask_at, masks_of}
 use Rattle.care.proofs.LeastMasks.{masks_least}
 use Rattle.clock.specs.Call.{cycle_call}
 use Rattle.clock.specs.Values.{with_inputs}
-use Rattle.clock.specs.declared.Clocked.TheVariants.{Done}
 use Rattle.compact.specs.Part.{compacted}
 use Rattle.compact.proofs.Compacted.{blanked_sound, stands, holds_part}
 use Rattle.changeover.specs.Call.{change_over_call}
@@ -50,7 +49,7 @@ module _ (d : Design) (masks board : List ℕ) where
       }
 
 -- the board list that goes over is tied to the old one
-tied_changed : (file : List ℕ) (n : ℕ) → check_of file ≡ Accepted n → (board : List ℕ)
+tied_changed : (file : List ℕ) (n : ℕ) → check_of file ≡ Ok n → (board : List ℕ)
     → TiedAtNew (design_of file) (masks_of (design_of file)) board (compact_board (design_of file) (masks_of (design_of file)) board)
 tied_changed file n a board =
     let d = design_of file in
@@ -70,13 +69,13 @@ changed_over_runs file list board new e calls calls' kinds pins =
     (rw (first_words file list board new e) (tied_changed file a.count a.checked board)) kinds pins
 
 -- where the old file would accept a cycle, the compacted one does with the same pin words, on the new list
-pub accepts_changed : (file list board new : List ℕ) → (change_over_call file list board new).answer ≡ Done
+pub accepts_changed : (file list board new : List ℕ) → (change_over_call file list board new).answer ≡ Ok tt
     → let d = design_of file in
     let other = design_of (compacted file) in
     let board' = take other.count (change_over_call file list board new).new in
-    (words words' : ℕ → ℕ) (next next' : List ℕ) → (cycle_call file (with_inputs d words board) next).answer ≡ Done
+    (words words' : ℕ → ℕ) (next next' : List ℕ) → (cycle_call file (with_inputs d words board) next).answer ≡ Ok tt
     → pin_words d words ≡ pin_words other words' → length next' ≡ other.count
-    → (cycle_call (compacted file) (with_inputs other words' board') next').answer ≡ Done
+    → (cycle_call (compacted file) (with_inputs other words' board') next').answer ≡ Ok tt
 accepts_changed file list board new e words words' next next' s pins room =
     let a = accepts file list board new e in
     accepts_too file a.count a.checked words words' board next

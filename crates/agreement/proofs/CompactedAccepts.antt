@@ -6,6 +6,7 @@ use mathlib.Core.List.{List}
 use Prim.Native.Nat.{ℕ, ◌<◌}
 use native.Mathlib.Omega.{arith}
 use lib.ListN.{length}
+use Rattle.std.specs.Prelude.{Ok}
 use Rattle.endian.specs.Lists.{word_at}
 use Rattle.netlist.specs.Kinds.{is_input}
 use Rattle.netlist.specs.Layout.{Design, design_of, role_at}
@@ -15,11 +16,9 @@ use Rattle.netlist.specs.declared.record.Role.TheVariants.{Input, Register, Outp
 use Rattle.netlist.proofs.PickedLaws.{Ranked, ranked}
 use Rattle.netlist.proofs.RoleLaws.{input_role}
 use Rattle.rules.specs.Check.{check_of}
-use Rattle.rules.specs.declared.Checked.TheVariants.{Accepted}
 use Rattle.care.specs.Least.{masks_of}
 use Rattle.clock.specs.Call.{word_is_wide, is_wide, cycle_with, cycle_call}
 use Rattle.clock.specs.Values.{unchanged, put_word, with_inputs}
-use Rattle.clock.specs.declared.Clocked.TheVariants.{Done}
 use Rattle.clock.proofs.CallLaws.{answer_fit, fit_both, words_clear, clear_words}
 use Rattle.clock.proofs.InputLaws.{length_inputs, input_word}
 use Rattle.clock.proofs.Promises.{passed, board_length}
@@ -79,11 +78,11 @@ module _ (d : Design) (masks : List ℕ) (e : Design) (p : PartOf (survives d ma
       go t = subst (λ (k : ℕ). is_wide e (with_inputs e words' board') k ≡ false) t.rank (new_passes t.place t.below t.picks)
 
 -- #107
-pub accepts_too : (file : List ℕ) (n : ℕ) → check_of file ≡ Accepted n → let d = design_of file in
+pub accepts_too : (file : List ℕ) (n : ℕ) → check_of file ≡ Ok n → let d = design_of file in
     let e = design_of (compacted file) in
-    (words words' : ℕ → ℕ) (board next board' next' : List ℕ) → (cycle_call file (with_inputs d words board) next).answer ≡ Done
+    (words words' : ℕ → ℕ) (board next board' next' : List ℕ) → (cycle_call file (with_inputs d words board) next).answer ≡ Ok tt
     → pin_words d words ≡ pin_words e words' → length board' ≡ e.count → length next' ≡ e.count
-    → ((i : ℕ) → i < e.count → is_wide e board' i ≡ false) → (cycle_call (compacted file) (with_inputs e words' board') next').answer ≡ Done
+    → ((i : ℕ) → i < e.count → is_wide e board' i ≡ false) → (cycle_call (compacted file) (with_inputs e words' board') next').answer ≡ Ok tt
 unfolding cycle_with design_of
 accepts_too file n a words words' board next board' next' s pins size' room fits =
     let d = design_of file in

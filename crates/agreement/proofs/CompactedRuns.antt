@@ -4,16 +4,15 @@ use mathlib.Core.Path.{◌≡◌, sym, subst, ◌∙◌}
 use mathlib.Core.List.{List}
 use Prim.Native.Nat.{ℕ}
 use lib.ListN.{length}
+use Rattle.std.specs.Prelude.{Ok}
 use Rattle.netlist.specs.Layout.{Design, design_of}
 use Rattle.rules.specs.Check.{check_of}
 use Rattle.rules.specs.Sound.{Sound}
-use Rattle.rules.specs.declared.Checked.TheVariants.{Accepted}
 use Rattle.rules.proofs.Acceptance.{accepted}
 use Rattle.care.specs.Least.{masks_of}
 use Rattle.care.proofs.LeastMasks.{masks_least}
 use Rattle.clock.specs.Call.{start_call, cycle_call}
 use Rattle.clock.specs.Values.{unchanged, with_inputs}
-use Rattle.clock.specs.declared.Clocked.TheVariants.{Done}
 use Rattle.clock.proofs.InputLaws.{length_inputs}
 use Rattle.clock.proofs.Promises.{start_left, values_left, next_left, board_length}
 use Rattle.compact.specs.Part.{compacted}
@@ -24,7 +23,7 @@ use Rattle.agreement.specs.Runs.{of_file, run_of}
 use Rattle.agreement.proofs.CompactedCycle.{TiedAtNew, starts_at_new, outputs_same, next_at_new}
 use Rattle.agreement.proofs.InStep.{InStep, runs_from_start}
 
-module _ (file : List ℕ) (n : ℕ) (a : check_of file ≡ Accepted n) where
+module _ (file : List ℕ) (n : ℕ) (a : check_of file ≡ Ok n) where
   abbrev d : Design
   d = design_of file
 
@@ -41,15 +40,15 @@ module _ (file : List ℕ) (n : ℕ) (a : check_of file ≡ Accepted n) where
   sound' = (accepted (compacted file) _ (stands file n a).accepted).sound
 
   -- two accepted starts
-  starts : (board board' : List ℕ) → (start_call file board).answer ≡ Done → (start_call (compacted file) board').answer ≡ Done
+  starts : (board board' : List ℕ) → (start_call file board).answer ≡ Ok tt → (start_call (compacted file) board').answer ≡ Ok tt
       → TiedAtNew d masks (start_call file board).board (start_call (compacted file) board').board
   starts board board' s s' =
       rw (start_left file board s, start_left (compacted file) board' s')
       (starts_at_new d sound masks (masks_least d sound).closed (blanked_sound d sound masks) e sound' (holds_part file n a))
 
   -- two accepted cycles
-  module _ (words words' : ℕ → ℕ) (board next board' next' : List ℕ) (s : (cycle_call file (with_inputs (design_of file) words board) next).answer ≡ Done)
-      (s' : (cycle_call (compacted file) (with_inputs (design_of (compacted file)) words' board') next').answer ≡ Done)
+  module _ (words words' : ℕ → ℕ) (board next board' next' : List ℕ) (s : (cycle_call file (with_inputs (design_of file) words board) next).answer ≡ (Ok tt))
+      (s' : (cycle_call (compacted file) (with_inputs (design_of (compacted file)) words' board') next').answer ≡ (Ok tt))
       (tied : TiedAtNew (design_of file) (masks_of (design_of file)) board board') (pins : pin_words (design_of file) words ≡ pin_words (design_of (compacted file)) words') where
     size : length board ≡ d.count
     unfolding design_of

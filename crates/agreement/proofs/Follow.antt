@@ -4,6 +4,8 @@ use mathlib.Core.Path.{◌≡◌, refl, sym, ap, subst}
 use mathlib.Core.List.{List}
 use mathlib.Core.Logic.{◌⊎◌, inl, inr}
 use Prim.Native.Nat.{ℕ, ◌<◌}
+use native.Mathlib.Omega.{arith}
+use Rattle.std.specs.Prelude.{Ok}
 use Rattle.bits.specs.Masks.{Within, Agree}
 use Rattle.bits.proofs.Agreement.{agree_refl, agree_zero, agree_within, agree_by_bits}
 use Rattle.bits.proofs.Digits.{bit_lt, bit_of_and}
@@ -14,7 +16,6 @@ use Rattle.netlist.specs.declared.record.Record.{Record}
 use Rattle.netlist.proofs.Tests.{by_test}
 use Rattle.rules.specs.Check.{check_of}
 use Rattle.rules.specs.Sound.{Sound, SameDesign}
-use Rattle.rules.specs.declared.Checked.TheVariants.{Accepted}
 use Rattle.rules.proofs.SoundLaws.{operands_below}
 use Rattle.signal.specs.Results.{result_at}
 use Rattle.signal.specs.Asks.{demand_of}
@@ -25,7 +26,6 @@ use Rattle.compact.specs.Survivors.{is_blank, with_blanks, blanked}
 use Rattle.compact.proofs.BlankLaws.{none_here, width_stays}
 use Rattle.compact.proofs.SurvivorLaws.{blank_mask, stays_kind}
 use Rattle.agreement.specs.Claim.{SecondFile, same, trimmed, file_of}
-use native.Mathlib.Omega.{arith}
 
 pub record Follows (d e : Design) (M : ℕ → ℕ) : Type 0 where
   pub count : d.count ≡ e.count
@@ -66,7 +66,7 @@ follows_blanked d masks =
     }
 
 -- either file of the second run
-pub follows : (which : SecondFile) (file masks : List ℕ) (n : ℕ) → check_of file ≡ Accepted n
+pub follows : (which : SecondFile) (file masks : List ℕ) (n : ℕ) → check_of file ≡ Ok n
     → Follows (design_of file) (design_of (file_of which file masks)) (mask_at masks)
 follows same file masks n e = follows_self (design_of file) (mask_at masks)
 follows trimmed file masks n e = follows_cut (design_of file) (design_of (trimmed_by file masks)) masks (holds_cut file n e masks)

@@ -7,7 +7,7 @@ use mathlib.Core.Option.{some-injective}
 use Prim.Native.Nat.{ℕ, zero, suc}
 use native.Mathlib.Omega.{arith}
 use lib.ListN.{length, drop}
-use Rattle.clock.specs.declared.Clocked.TheVariants.{Done}
+use Rattle.std.specs.Prelude.{Ok}
 use Rattle.agreement.specs.Runs.{Machine, Call, Cycle, Step, started, cycled, run_of, kinds_of, cycles_of, EachCycle}
 use Rattle.agreement.proofs.Chains.{CycledFrom, Chain, chain_of}
 
@@ -15,12 +15,12 @@ use Rattle.agreement.proofs.Chains.{CycledFrom, Chain, chain_of}
 -- leave boards that are tied
 pub record InStep {L L' : Type 0} (machine : Machine L) (machine' : Machine L') (Tied : L → L' → Type 0) (Alike : (ℕ → ℕ) → (ℕ → ℕ) → Type 0)
     (Close : L → L' → Type 0) : Type 0 where
-  pub starts : (board : L) (board' : L') → (machine.start board).answer ≡ Done → (machine'.start board').answer ≡ Done
+  pub starts : (board : L) (board' : L') → (machine.start board).answer ≡ Ok tt → (machine'.start board').answer ≡ Ok tt
       → Tied (machine.start board).board (machine'.start board').board
   pub cycles : (j j' : ℕ) (words words' : ℕ → ℕ) (board next : L) (board' next' : L')
       → let call = machine.cycle j words board next in
       let call' = machine'.cycle j' words' board' next' in
-      call.answer ≡ Done → call'.answer ≡ Done → Tied board board' → Alike words words'
+      call.answer ≡ Ok tt → call'.answer ≡ Ok tt → Tied board board' → Alike words words'
       → Close call.board call'.board × Tied call.next call'.next
 
 module _ {L L' : Type 0} {machine : Machine L} {machine' : Machine L'} {Tied : L → L' → Type 0} {Alike : (ℕ → ℕ) → (ℕ → ℕ) → Type 0}

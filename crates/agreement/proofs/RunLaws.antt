@@ -5,35 +5,35 @@ use mathlib.Core.List.{List, [], ◌∷◌}
 use Prim.Native.Nat.{ℕ, suc}
 use native.Mathlib.Omega.{arith}
 use lib.ListN.{length, drop}
-use Rattle.netlist.specs.declared.refusal.Refusal.{Refusal}
-use Rattle.clock.specs.declared.Clocked.{Clocked}
-use Rattle.clock.specs.declared.Clocked.TheVariants.{Done, Refused}
+use Rattle.std.specs.Prelude.{Result, Ok, Err}
+use Rattle.netlist.specs.Refusals.{refused}
+use Rattle.netlist.specs.declared.refusal.Refused.{Refused}
 use Rattle.agreement.specs.Runs.{Machine, start, cycle, Step, started, cycled, Outcome, outcome, call_on, kinds_of, cycles_of}
 
 module _ {L : Type 0} (machine : Machine L) (j : ℕ) (board : L) where
   -- a start, by its answer
-  module _ {a : Clocked} (e : (machine.start board).answer ≡ a) where
+  module _ {a : Result (Unit {0}) Refused} (e : (machine.start board).answer ≡ a) where
     start_comes_to : call_on machine j board start ≡ outcome a started (machine.start board).board board
     unfolding call_on
-    start_comes_to = ap (λ (b : Clocked). outcome b started (machine.start board).board board) e
+    start_comes_to = ap (λ (b : Result (Unit {0}) Refused). outcome b started (machine.start board).board board) e
 
   -- a cycle, by its answer
-  module _ (words : ℕ → ℕ) (next : L) {a : Clocked} (e : (machine.cycle j words board next).answer ≡ a) where
+  module _ (words : ℕ → ℕ) (next : L) {a : Result (Unit {0}) Refused} (e : (machine.cycle j words board next).answer ≡ a) where
     cycle_comes_to : let call = machine.cycle j words board next in
         call_on machine j board (cycle words next) ≡ outcome a (cycled (record { words = words; values = call.board })) call.next board
     unfolding call_on
     cycle_comes_to =
         let call = machine.cycle j words board next in
-        ap (λ (b : Clocked). outcome b (cycled (record { words = words; values = call.board })) call.next board) e
+        ap (λ (b : Result (Unit {0}) Refused). outcome b (cycled (record { words = words; values = call.board })) call.next board) e
 
   -- "A start gets the run's board list as the last call left it."
-  pub start_moves : (machine.start board).answer ≡ Done
+  pub start_moves : (machine.start board).answer ≡ Ok tt
       → call_on machine j board start ≡ record { steps = started ∷ []; board = (machine.start board).board }
   start_moves e = start_comes_to e
 
   -- "Once the cycle is accepted, that next list is the run's board list, and the old one holds the values of this cycle."
   pub cycle_moves : (words : ℕ → ℕ) (next : L) → let call = machine.cycle j words board next in
-      call.answer ≡ Done
+      call.answer ≡ Ok tt
       → call_on machine j board (cycle words next) ≡ record { steps = cycled (record { words = words; values = call.board }) ∷ []; board = call.next }
   cycle_moves words next e = cycle_comes_to words next e
 
@@ -41,12 +41,12 @@ module _ {L : Type 0} (machine : Machine L) (j : ℕ) (board : L) where
   abbrev stays : Outcome L
   stays = record { steps = []; board = board }
 
-  pub start_stays : (r : Refusal) (i : ℕ) → (machine.start board).answer ≡ Refused r i → call_on machine j board start ≡ stays
-  start_stays r i e = start_comes_to e
+  pub start_stays : (r : Refused) → (machine.start board).answer ≡ Err r → call_on machine j board start ≡ stays
+  start_stays r e = start_comes_to e
 
-  pub cycle_stays : (words : ℕ → ℕ) (next : L) (r : Refusal) (i : ℕ) → (machine.cycle j words board next).answer ≡ Refused r i
+  pub cycle_stays : (words : ℕ → ℕ) (next : L) (r : Refused) → (machine.cycle j words board next).answer ≡ Err r
       → call_on machine j board (cycle words next) ≡ stays
-  cycle_stays words next r i e = cycle_comes_to words next e
+  cycle_stays words next r e = cycle_comes_to words next e
 
 -- two runs whose accepted calls are of the same kinds have equally many accepted cycles
 pub as_many : {L L' : Type 0} (first : List (Step L)) (second : List (Step L')) → kinds_of first ≡ kinds_of second

@@ -5,6 +5,7 @@ use mathlib.Core.Bool.{cond}
 use mathlib.Core.List.{List}
 use Prim.Native.Nat.{ℕ, ◌<◌}
 use lib.ListN.{length}
+use Rattle.std.specs.Prelude.{Ok}
 use Rattle.bits.specs.Masks.{Within}
 use Rattle.bits.specs.Words.{low_mask}
 use Rattle.bits.proofs.Agreement.{agree_within, agree_equal}
@@ -13,13 +14,11 @@ use Rattle.netlist.specs.Layout.{Design, design_of}
 use Rattle.netlist.specs.declared.record.Role.{Role}
 use Rattle.rules.specs.Check.{check_of}
 use Rattle.rules.specs.Sound.{Sound}
-use Rattle.rules.specs.declared.Checked.TheVariants.{Accepted}
 use Rattle.rules.proofs.Acceptance.{accepted}
 use Rattle.care.specs.Least.{Closed, output_seed, mask_at, masks_of}
 use Rattle.care.proofs.LeastMasks.{masks_least}
 use Rattle.clock.specs.Call.{start_call, cycle_with}
 use Rattle.clock.specs.Values.{unchanged, with_inputs, values_of}
-use Rattle.clock.specs.declared.Clocked.TheVariants.{Done}
 use Rattle.clock.proofs.InputLaws.{length_inputs}
 use Rattle.clock.proofs.Promises.{start_left, values_left, next_left, cycle_sound, board_length}
 use Rattle.trim.proofs.PromisesBy.{accepted_only_if}
@@ -41,14 +40,14 @@ module _ (file file' masks : List ℕ) (sound : Sound (design_of file)) (seed : 
   e = design_of file'
 
   -- two accepted starts
-  starts_tied : (board board' : List ℕ) → (start_call file board).answer ≡ Done → (start_call file' board').answer ≡ Done
+  starts_tied : (board board' : List ℕ) → (start_call file board).answer ≡ Ok tt → (start_call file' board').answer ≡ Ok tt
       → Tied d masks (start_call file board).board (start_call file' board').board
   starts_tied board board' s s' = rw (start_left file board s, start_left file' board' s') (tied_start d e masks f)
 
   -- two accepted cycles
   module _ (j : ℕ) (words words' : ℕ → ℕ) (board next board' next' : List ℕ)
-      (s : (cycle_with unchanged file (with_inputs (design_of file) words board) next).answer ≡ Done)
-      (s' : (cycle_with (change j) file' (with_inputs (design_of file') words' board') next').answer ≡ Done)
+      (s : (cycle_with unchanged file (with_inputs (design_of file) words board) next).answer ≡ (Ok tt))
+      (s' : (cycle_with (change j) file' (with_inputs (design_of file') words' board') next').answer ≡ (Ok tt))
       (tied : Tied (design_of file) masks board board') (inputs : AtInputs (design_of file) masks words words') where
     abbrev put : List ℕ
     put = with_inputs d words board
@@ -86,7 +85,7 @@ outputs_equal d masks values values' seeded close i h q =
     agree_equal (d.at i).width c.first c.second (agree_within all c.agree)
 
 -- the claim for any closed masks, smallest or not
-pub closed_runs_agree : (file masks : List ℕ) (n : ℕ) → check_of file ≡ Accepted n → Closed (design_of file) (output_seed (design_of file)) (mask_at masks)
+pub closed_runs_agree : (file masks : List ℕ) (n : ℕ) → check_of file ≡ Ok n → Closed (design_of file) (output_seed (design_of file)) (mask_at masks)
     → RunsAgree file masks
 unfolding change_in
 closed_runs_agree file masks n e closed which manner board board' calls calls' supposed =

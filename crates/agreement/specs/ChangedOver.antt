@@ -1,9 +1,8 @@
 -- The claim about a run that changes over to the compacted file: "From that moment equal pins give the outputs the old file would have given, in every
 -- later cycle" (#108). Assumes nothing.
-use Rattle.std.specs.Prelude.{◌≡◌, List, ℕ, take}
+use Rattle.std.specs.Prelude.{◌≡◌, List, ℕ, take, Ok}
 use Rattle.netlist.specs.Layout.{design_of}
 use Rattle.clock.specs.Values.{unchanged}
-use Rattle.clock.specs.declared.Clocked.TheVariants.{Done}
 use Rattle.compact.specs.Part.{compacted}
 use Rattle.changeover.specs.Call.{change_over_call}
 use Rattle.agreement.specs.Compacted.{EqualPins, EqualOutputs}
@@ -14,7 +13,7 @@ use Rattle.agreement.specs.Runs.{Call, run_of, of_file, kinds_of}
 -- "one for each record of the compacted file".
 abbrev pub ChangedOverRuns : Type 0
 ChangedOverRuns =
-    (file list board new : List ℕ) → (change_over_call file list board new).answer ≡ Done
+    (file list board new : List ℕ) → (change_over_call file list board new).answer ≡ Ok tt
     → let other = compacted file in
     let board' = take (design_of other).count (change_over_call file list board new).new in
     (calls calls' : List (Call (List ℕ)))

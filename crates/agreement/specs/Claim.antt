@@ -1,15 +1,13 @@
 -- The claim about two whole runs, as 01 states it under "Two runs", for the masks of a design and for a list that trim_by accepts.
 -- Assumes nothing.
-use Rattle.std.specs.Prelude.{◌≡◌, List, ℕ, ◌<◌}
+use Rattle.std.specs.Prelude.{◌≡◌, List, ℕ, ◌<◌, Ok}
 use Rattle.endian.specs.Lists.{word_at}
 use Rattle.bits.specs.Masks.{Agree}
 use Rattle.netlist.specs.Layout.{Design, design_of, role_at}
 use Rattle.netlist.specs.declared.record.Role.TheVariants.{Input, Register, Output}
 use Rattle.rules.specs.Check.{check_of}
-use Rattle.rules.specs.declared.Checked.TheVariants.{Accepted}
 use Rattle.care.specs.Least.{mask_at, masks_of}
 use Rattle.care.specs.declared.Tally.{Tally}
-use Rattle.care.specs.declared.Tallied.TheVariants.{Done}
 use Rattle.trim.specs.CallBy.{trim_by_call}
 use Rattle.trim.specs.Trimmed.{trimmed_by}
 use Rattle.agreement.specs.Runs.{Call, Step, run_of, of_file, kinds_of, EachCycle}
@@ -70,10 +68,10 @@ RunsAgree file masks =
 
 -- Demand 3: "An accepted design is a file that check accepts", and the masks are its own.
 abbrev pub TwoRuns : Type 0
-TwoRuns = (file : List ℕ) (n : ℕ) → check_of file ≡ Accepted n → RunsAgree file (masks_of (design_of file))
+TwoRuns = (file : List ℕ) (n : ℕ) → check_of file ≡ Ok n → RunsAgree file (masks_of (design_of file))
 
 -- #105: "For two runs, the accepted list then plays the part of the masks, and this file that of the trimmed one": the call leaves
 -- `trimmed_by file list` in its destination.
 abbrev pub GivenListRuns : Type 0
 GivenListRuns =
-    (file list destination : List ℕ) (tally : Tally) → (trim_by_call file list destination).answer ≡ Done tally → RunsAgree file list
+    (file list destination : List ℕ) (tally : Tally) → (trim_by_call file list destination).answer ≡ Ok tally → RunsAgree file list

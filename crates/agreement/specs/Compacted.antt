@@ -1,13 +1,12 @@
 -- The claim about runs of a file and of its compacted file: "From reset, equal pin words in record order give equal outputs in every cycle" (#107).
 -- Assumes nothing.
-use Rattle.std.specs.Prelude.{◌≡◌, Bool, false, List, ◌∷◌, ℕ, take}
+use Rattle.std.specs.Prelude.{◌≡◌, Bool, false, List, ◌∷◌, ℕ, take, Ok}
 use Rattle.endian.specs.Lists.{word_at}
 use Rattle.netlist.specs.Kinds.{is_input, is_output}
 use Rattle.netlist.specs.Layout.{Design, design_of, role_at}
 use Rattle.netlist.specs.Picked.{picked}
 use Rattle.clock.specs.Values.{unchanged}
 use Rattle.compact.specs.Call.{compact_call}
-use Rattle.compact.specs.declared.Written.TheVariants.{Done}
 use Rattle.agreement.specs.Runs.{Call, Step, run_of, of_file, kinds_of, EachCycle}
 
 -- "pin words in record order": the words that a cycle puts at the inputs. And the values at the outputs, in the same order.
@@ -34,7 +33,7 @@ EqualOutputs d e first second = EachCycle (λ c c'. output_words d c.values ≡ 
 -- leaves in the front of its destination.
 abbrev pub CompactedRuns : Type 0
 CompactedRuns =
-    (file list destination : List ℕ) (size : ℕ) → (compact_call file list destination).answer ≡ Done size
+    (file list destination : List ℕ) (size : ℕ) → (compact_call file list destination).answer ≡ Ok size
     → let other = take size (compact_call file list destination).destination in
     (board board' : List ℕ) (calls calls' : List (Call (List ℕ)))
     → let first = run_of (of_file (λ j. unchanged) file) board calls in

@@ -1,13 +1,12 @@
 -- Runs of whatever starts and cycles: a list of calls, and what the accepted ones come to. A file is one such thing.
 -- Assumes nothing.
-use Rattle.std.specs.Prelude.{◌≡◌, Bool, true, false, List, [], ◌∷◌, ◌++◌, ℕ, suc}
+use Rattle.std.specs.Prelude.{◌≡◌, Bool, true, false, List, [], ◌∷◌, ◌++◌, ℕ, suc, Result, Ok, Err}
 use Rattle.std.proofs.Math.Option.{Option, some}
 use Rattle.std.proofs.Math.ListN.{get_elem?}
+use Rattle.netlist.specs.declared.refusal.Refused.{Refused}
 use Rattle.netlist.specs.Layout.{design_of}
 use Rattle.clock.specs.Call.{StartCall, CycleCall, start_call, cycle_with}
 use Rattle.clock.specs.Values.{with_inputs}
-use Rattle.clock.specs.declared.Clocked.{Clocked}
-use Rattle.clock.specs.declared.Clocked.TheVariants.{Done, Refused}
 
 -- What is run: what a start comes to, and what a cycle comes to. L is what they work on: a board list, or one for each of several files. A cycle
 -- is given the number of the call, a word for every input, the board list and a next list.
@@ -37,9 +36,9 @@ pub record Outcome (L : Type 0) : Type 0 where
   pub board : L
 
 -- "A refused call is no cycle: the run keeps its board list, and the registers' words stay."
-abbrev pub outcome : {L : Type 0} → Clocked → Step L → L → L → Outcome L
-outcome Done step new old = record { steps = step ∷ []; board = new }
-outcome (Refused r i) step new old = record { steps = []; board = old }
+abbrev pub outcome : {L : Type 0} → Result (Unit {0}) Refused → Step L → L → L → Outcome L
+outcome (Ok done) step new old = record { steps = step ∷ []; board = new }
+outcome (Err r) step new old = record { steps = []; board = old }
 
 -- "A start gets the run's board list as the last call left it." "Once the cycle is accepted, that next list is the run's board list, and the
 -- old one holds the values of this cycle." This is call j.

@@ -1,27 +1,21 @@
 -- When an answer fits into its number: the record of a refusal is below 2^32, and the numbers of a tally are below 2^31. No public promise mentions it.
 -- Assumes nothing.
-use Rattle.std.specs.Prelude.{◌^◌, ◌<◌}
-use Rattle.rules.specs.declared.Checked.{Checked}
-use Rattle.rules.specs.declared.Checked.TheVariants.{Accepted, Refused as refused}
-use Rattle.care.specs.declared.Tallied.{Tallied}
-use Rattle.care.specs.declared.Tallied.TheVariants.{Done, Refused}
-use Rattle.clock.specs.declared.Clocked.{Clocked}
-use Rattle.clock.specs.declared.Clocked.TheVariants.{Done as clocked, Refused as clock_refused}
-use Rattle.compact.specs.declared.Written.{Written}
-use Rattle.compact.specs.declared.Written.TheVariants.{Done as written, Refused as write_refused}
+use Rattle.std.specs.Prelude.{◌^◌, ◌<◌, Result, Ok, Err}
+use Rattle.netlist.specs.declared.refusal.Refused.{Refused}
+use Rattle.care.specs.declared.Tally.{Tally}
 
-abbrev pub CheckFits : Checked → Type 0
-CheckFits (Accepted n) = Unit {0}
-CheckFits (refused r i) = i < 2 ^ 32
+abbrev pub CheckFits : Result ℕ Refused → Type 0
+CheckFits (Ok n) = Unit {0}
+CheckFits (Err r) = i < 2 ^ 32
 
-abbrev pub TalliedFits : Tallied → Type 0
-TalliedFits (Done t) = (t.widths < 2 ^ 31) × (t.ones < 2 ^ 31)
-TalliedFits (Refused r i) = i < 2 ^ 32
+abbrev pub TalliedFits : Result Tally Refused → Type 0
+TalliedFits (Ok t) = (t.widths < 2 ^ 31) × (t.ones < 2 ^ 31)
+TalliedFits (Err r) = i < 2 ^ 32
 
-abbrev pub ClockedFits : Clocked → Type 0
-ClockedFits clocked = Unit {0}
-ClockedFits (clock_refused r i) = i < 2 ^ 32
+abbrev pub ClockedFits : Result (Unit {0}) Refused → Type 0
+ClockedFits (Ok done) = Unit {0}
+ClockedFits (Err r) = i < 2 ^ 32
 
-abbrev pub WrittenFits : Written → Type 0
-WrittenFits (written size) = Unit {0}
-WrittenFits (write_refused r i) = i < 2 ^ 32
+abbrev pub WrittenFits : Result ℕ Refused → Type 0
+WrittenFits (Ok size) = Unit {0}
+WrittenFits (Err r) = i < 2 ^ 32

@@ -7,12 +7,13 @@ use mathlib.Core.Logic.{◌≢◌}
 use Prim.Native.Nat.{ℕ}
 use lib.Dec.{eqb}
 use borrow.Author.Tests.{eq-eqb, ne_eqb, eqb-true}
+use Rattle.std.specs.Prelude.{Result, is_ok}
+use Rattle.netlist.specs.declared.refusal.Refused.{Refused}
 use Rattle.netlist.specs.Layout.{design_of}
 use Rattle.netlist.specs.Refusals.{leaves}
 use Rattle.netlist.proofs.Tests.{and_first, and_second}
 use Rattle.care.specs.Least.{masks_of}
-use Rattle.clock.specs.Call.{is_done, both_have}
-use Rattle.clock.specs.declared.Clocked.{Clocked}
+use Rattle.clock.specs.Call.{both_have}
 use Rattle.clock.proofs.CallLaws.{fit_both, both_fit}
 use Rattle.changeover.specs.Call.{all_have, change_over_answer, change_over_call}
 use Rattle.changeover.specs.Carried.{new_list}
@@ -32,15 +33,15 @@ pub others_unfit : (list board new n : ℕ) → list ≡ n → both_have board n
 others_unfit list board new n e h = ap (λ (b : Bool). b && both_have board new n) (eq-eqb list n e) ∙ h
 
 -- the answer of a call and what it leaves, by its answer
-pub change_ends : (file list board new : List ℕ) {a : Clocked} → change_over_answer file list board new ≡ a
+pub change_ends : (file list board new : List ℕ) {a : Result (Unit {0}) Refused} → change_over_answer file list board new ≡ a
     → (a ≡ (change_over_call file list board new).answer)
-    × ((leaves (is_done a) (masks_of (design_of file)) list ≡ (change_over_call file list board new).list)
-    × (leaves (is_done a) (new_list (design_of file) (masks_of (design_of file)) board) new ≡ (change_over_call file list board new).new))
+    × ((leaves (is_ok a) (masks_of (design_of file)) list ≡ (change_over_call file list board new).list)
+    × (leaves (is_ok a) (new_list (design_of file) (masks_of (design_of file)) board) new ≡ (change_over_call file list board new).new))
 unfolding change_over_call
 change_ends file list board new e = (
   sym e,
   (
-    ap (λ (c : Clocked). leaves (is_done c) (masks_of (design_of file)) list) (sym e),
-    ap (λ (c : Clocked). leaves (is_done c) (new_list (design_of file) (masks_of (design_of file)) board) new) (sym e),
+    ap (λ (c : Result (Unit {0}) Refused). leaves (is_ok c) (masks_of (design_of file)) list) (sym e),
+    ap (λ (c : Result (Unit {0}) Refused). leaves (is_ok c) (new_list (design_of file) (masks_of (design_of file)) board) new) (sym e),
   ),
 )

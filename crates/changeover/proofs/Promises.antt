@@ -10,23 +10,21 @@ use lib.Bits.{bit_and}
 use lib.Dec.{ltb}
 use lib.ListN.{length, take}
 use lib.Seq.{get_or-take}
+use Rattle.std.specs.Prelude.{Result, Ok, Err, is_ok}
 use Rattle.endian.specs.Lists.{word_at}
+use Rattle.netlist.specs.declared.refusal.Refused.{Refused}
 use Rattle.netlist.specs.Kinds.{is_input, is_held}
 use Rattle.netlist.specs.Layout.{Design, design_of, role_at}
-use Rattle.netlist.specs.Refusals.{leaves}
+use Rattle.netlist.specs.Refusals.{leaves, refused}
 use Rattle.netlist.specs.declared.record.Role.{Role}
 use Rattle.netlist.specs.declared.record.Role.TheVariants.{Input, Register}
-use Rattle.netlist.specs.declared.refusal.Refusal.{Refusal}
 use Rattle.netlist.proofs.PickedLaws.{Ranked, ranked, rank_lt}
 use Rattle.netlist.proofs.RoleLaws.{new_held}
 use Rattle.netlist.proofs.Tests.{by_test}
 use Rattle.rules.specs.Check.{check_of}
-use Rattle.rules.specs.declared.Checked.TheVariants.{Accepted}
 use Rattle.care.specs.Least.{mask_at, masks_of}
 use Rattle.care.proofs.Families.{below_or_not}
-use Rattle.clock.specs.Call.{is_done, is_wide}
-use Rattle.clock.specs.declared.Clocked.{Clocked}
-use Rattle.clock.specs.declared.Clocked.TheVariants.{Done, Refused}
+use Rattle.clock.specs.Call.{is_wide}
 use Rattle.clock.proofs.CallLaws.{answer_fit, words_clear, clear_words}
 use Rattle.clock.proofs.Promises.{passed}
 use Rattle.trim.specs.Trimmed.{trim_design}
@@ -46,14 +44,14 @@ use Rattle.changeover.proofs.CarriedLaws.{input_whole, not_held, carried_was, ca
 -- the file is accepted, each list has a word for each record, and 12 applies to no word of the board list
 pub record Accepts (file list board new : List ℕ) : Type 0 where
   pub count : ℕ
-  pub checked : check_of file ≡ Accepted count
+  pub checked : check_of file ≡ Ok count
   pub masks : length list ≡ count
   pub boards : length board ≡ count
   pub room : length new ≡ count
   pub clear : (i : ℕ) → i < (design_of file).count → is_wide (design_of file) board i ≡ false
 
 module _ (file list board new : List ℕ) where
-  pub accepts : (change_over_call file list board new).answer ≡ Done → Accepts file list board new
+  pub accepts : (change_over_call file list board new).answer ≡ Ok tt → Accepts file list board new
   unfolding change_over_call
   accepts e =
       let p = passed _ _ _ e in
@@ -67,14 +65,14 @@ module _ (file list board new : List ℕ) where
         clear = words_clear (design_of file) board p.clear;
       }
 
-  pub accepted_if : Accepts file list board new → (change_over_call file list board new).answer ≡ Done
+  pub accepted_if : Accepts file list board new → (change_over_call file list board new).answer ≡ Ok tt
   unfolding change_over_call
   accepted_if a =
       answer_fit _ _ a.checked (fit_all _ _ _ _ a.masks a.boards a.room) ∙ clear_words (design_of file) board a.clear
 
 -- ---- what it leaves
 
-module _ (file list board new : List ℕ) (e : (change_over_call file list board new).answer ≡ Done) where
+module _ (file list board new : List ℕ) (e : (change_over_call file list board new).answer ≡ (Ok tt)) where
   abbrev d : Design
   d = design_of file
 
@@ -90,11 +88,11 @@ module _ (file list board new : List ℕ) (e : (change_over_call file list board
   -- "a mask list that it fills as trim does"
   pub fills : (change_over_call file list board new).list ≡ masks_of (design_of file)
   unfolding change_over_call
-  fills = ap (λ (c : Clocked). leaves (is_done c) m list) e
+  fills = ap (λ (c : Result (Unit {0}) Refused). leaves (is_ok c) m list) e
 
   leaves_new : (change_over_call file list board new).new ≡ new_list d m board
   unfolding change_over_call
-  leaves_new = ap (λ (c : Clocked). leaves (is_done c) (new_list d m board) new) e
+  leaves_new = ap (λ (c : Result (Unit {0}) Refused). leaves (is_ok c) (new_list d m board) new) e
 
   part : PartOf (survives d m) (blanked d m) other
   part = holds_part file a.count a.checked
@@ -175,10 +173,10 @@ module _ (file list board new : List ℕ) (e : (change_over_call file list board
 
 -- ---- a refused call: "No lent word or byte changes"
 
-pub untouched : (file list board new : List ℕ) (r : Refusal) (i : ℕ) → (change_over_call file list board new).answer ≡ Refused r i
+pub untouched : (file list board new : List ℕ) (r : Refused) → (change_over_call file list board new).answer ≡ Err r
     → ((change_over_call file list board new).list ≡ list) × ((change_over_call file list board new).new ≡ new)
 unfolding change_over_call
-untouched file list board new r i e = (
-  ap (λ (c : Clocked). leaves (is_done c) (masks_of (design_of file)) list) e,
-  ap (λ (c : Clocked). leaves (is_done c) (new_list (design_of file) (masks_of (design_of file)) board) new) e,
+untouched file list board new r e = (
+  ap (λ (c : Result (Unit {0}) Refused). leaves (is_ok c) (masks_of (design_of file)) list) e,
+  ap (λ (c : Result (Unit {0}) Refused). leaves (is_ok c) (new_list (design_of file) (masks_of (design_of file)) board) new) e,
 )

@@ -2,12 +2,12 @@
 // last refusal has been ruled out. It asks nothing of its caller; `change` asks for an accepted file and lists of n words.
 #![tactic(auto)]
 
-ghost use Rattle.std.specs.Prelude.{◌≡◌};
+ghost use Rattle.std.specs.Prelude.{◌≡◌, is_ok};
 ghost use Rattle.netlist.specs.Layout.{design_of};
 ghost use Rattle.netlist.specs.Refusals.{leaves};
 ghost use Rattle.rules.specs.Lent.{Lent};
 ghost use Rattle.care.specs.Least.{masks_of};
-ghost use Rattle.clock.specs.Call.{words_answer, is_done};
+ghost use Rattle.clock.specs.Call.{words_answer};
 ghost use Rattle.changeover.specs.Call.{change_over_call};
 ghost use Rattle.changeover.specs.Carried.{new_list};
 
@@ -25,8 +25,8 @@ pub mod carry;
 fn change(file: &[u8], list: &mut [u64], board: &[u64], new: &mut [u64]) -> Clocked
     requires { Lent file.now list.old × (Lent file.now board.now × Lent file.now new.old) }
     ensures answer { result ≡ words_answer (design_of file.now) board.now }
-    ensures list { list.new ≡ leaves (is_done result) (masks_of (design_of file.now)) list.old }
-    ensures new { new.new ≡ leaves (is_done result) (new_list (design_of file.now) (masks_of (design_of file.now)) board.now) new.old }
+    ensures list { list.new ≡ leaves (is_ok result) (masks_of (design_of file.now)) list.old }
+    ensures new { new.new ≡ leaves (is_ok result) (new_list (design_of file.now) (masks_of (design_of file.now)) board.now) new.old }
 {
     match check_words(file, board) {
         Clocked::Done => {

@@ -7,36 +7,33 @@ use Prim.Native.Nat.{ℕ, ◌<◌}
 use native.Mathlib.Omega.{arith}
 use lib.Dec.{eqb}
 use borrow.Author.Tests.{eq-eqb, eqb-true}
+use Rattle.std.specs.Prelude.{Result, Ok, Err, is_ok}
+use Rattle.netlist.specs.declared.refusal.Refused.{Refused}
 use Rattle.netlist.specs.Layout.{Design, design_of}
-use Rattle.netlist.specs.Refusals.{leaves}
-use Rattle.netlist.specs.declared.refusal.Refusal.{Refusal}
+use Rattle.netlist.specs.Refusals.{leaves, refused}
 use Rattle.netlist.specs.declared.refusal.Refusal.TheVariants.{BadList, WideWord}
 use Rattle.netlist.proofs.LowestLaws.{not_both, Clear, lowest_cases}
 use Rattle.netlist.proofs.Tests.{and_first, and_second}
-use Rattle.rules.specs.declared.Checked.{Checked}
-use Rattle.rules.specs.declared.Checked.TheVariants.{Accepted, Refused as refused}
-use Rattle.clock.specs.Call.{answer_after, is_wide, words_answer, is_done, both_have, start_answer, start_call, cycle_answer, cycle_with, cycle_call}
+use Rattle.clock.specs.Call.{answer_after, is_wide, words_answer, both_have, start_answer, start_call, cycle_answer, cycle_with, cycle_call}
 use Rattle.clock.specs.Values.{plain_values, plain_next, start_of}
-use Rattle.clock.specs.declared.Clocked.{Clocked}
-use Rattle.clock.specs.declared.Clocked.TheVariants.{Done, Refused}
 
 -- ---- the answer, by the answer of check and the lengths of the lists
 
-module _ (fit : ℕ → Bool) (rest : Clocked) where
-  after : Checked → Clocked
+module _ (fit : ℕ → Bool) (rest : Result (Unit {0}) Refused) where
+  after : Result ℕ Refused → Result (Unit {0}) Refused
   after c = answer_after c fit rest
 
-  pub answer_refused : {c : Checked} {r : Refusal} {i : ℕ} → c ≡ refused r i → answer_after c fit rest ≡ Refused r i
+  pub answer_refused : {c : Result ℕ Refused} {r : Refused} → c ≡ Err r → answer_after c fit rest ≡ Err r
   unfolding answer_after after
   answer_refused e = ap after e
 
-  pub answer_bad_list : {c : Checked} {n : ℕ} → c ≡ Accepted n → fit n ≡ false → answer_after c fit rest ≡ Refused BadList 0
+  pub answer_bad_list : {c : Result ℕ Refused} {n : ℕ} → c ≡ Ok n → fit n ≡ false → answer_after c fit rest ≡ Err (refused BadList 0)
   unfolding answer_after after
-  answer_bad_list e g = ap after e ∙ ap (λ (t : Bool). cond t rest (Refused BadList 0)) g
+  answer_bad_list e g = ap after e ∙ ap (λ (t : Bool). cond t rest (Err (refused BadList 0))) g
 
-  pub answer_fit : {c : Checked} {n : ℕ} → c ≡ Accepted n → fit n ≡ true → answer_after c fit rest ≡ rest
+  pub answer_fit : {c : Result ℕ Refused} {n : ℕ} → c ≡ Ok n → fit n ≡ true → answer_after c fit rest ≡ rest
   unfolding answer_after after
-  answer_fit e g = ap after e ∙ ap (λ (t : Bool). cond t rest (Refused BadList 0)) g
+  answer_fit e g = ap after e ∙ ap (λ (t : Bool). cond t rest (Err (refused BadList 0))) g
 
 -- lists with room for n records
 pub fit_both : (board next n : ℕ) → board ≡ n → next ≡ n → both_have board next n ≡ true
@@ -47,34 +44,34 @@ both_fit board next n e = (eqb-true board n (and_first _ _ e), eqb-true next n (
 
 -- 12 applies to no record just where no word is too wide
 module _ (d : Design) (board : List ℕ) where
-  pub words_clear : words_answer d board ≡ Done → (i : ℕ) → i < d.count → is_wide d board i ≡ false
+  pub words_clear : words_answer d board ≡ Ok tt → (i : ℕ) → i < d.count → is_wide d board i ≡ false
   unfolding words_answer
   words_clear =
-      lowest_cases (is_wide d board) (Refused WideWord) Done d.count (λ a. a ≡ Done → Clear (is_wide d board) d.count)
+      lowest_cases (is_wide d board) (λ i. Err (refused WideWord i)) (Ok tt) d.count (λ a. a ≡ Ok tt → Clear (is_wide d board) d.count)
       (λ i h p c e. absurd (let z : ◌≡◌ {A = ℕ} 0 1 = cc in omega arith)) (λ clear e. clear)
 
-  pub clear_words : ((i : ℕ) → i < d.count → is_wide d board i ≡ false) → words_answer d board ≡ Done
+  pub clear_words : ((i : ℕ) → i < d.count → is_wide d board i ≡ false) → words_answer d board ≡ Ok tt
   unfolding words_answer
   clear_words clear =
-      lowest_cases (is_wide d board) (Refused WideWord) Done d.count (λ a. a ≡ Done) (λ i h p c. not_both p (clear i h)) (λ c. refl)
+      lowest_cases (is_wide d board) (λ i. Err (refused WideWord i)) (Ok tt) d.count (λ a. a ≡ (Ok tt)) (λ i h p c. not_both p (clear i h)) (λ c. refl)
 
 -- ---- what a call comes to, by its answer
 
-module _ (file board : List ℕ) {a : Clocked} where
+module _ (file board : List ℕ) {a : Result (Unit {0}) Refused} where
   pub start_ends : start_answer file board ≡ a
-      → (a ≡ (start_call file board).answer) × (leaves (is_done a) (start_of (design_of file)) board ≡ (start_call file board).board)
+      → (a ≡ (start_call file board).answer) × (leaves (is_ok a) (start_of (design_of file)) board ≡ (start_call file board).board)
   unfolding start_call
-  start_ends e = (sym e, ap (λ (c : Clocked). leaves (is_done c) (start_of (design_of file)) board) (sym e))
+  start_ends e = (sym e, ap (λ (c : Result (Unit {0}) Refused). leaves (is_ok c) (start_of (design_of file)) board) (sym e))
 
   pub cycle_ends : (next : List ℕ) → cycle_answer file board next ≡ a
       → (a ≡ (cycle_call file board next).answer)
-      × ((leaves (is_done a) (plain_values (design_of file) board) board ≡ (cycle_call file board next).board)
-      × (leaves (is_done a) (plain_next (design_of file) board) next ≡ (cycle_call file board next).next))
+      × ((leaves (is_ok a) (plain_values (design_of file) board) board ≡ (cycle_call file board next).board)
+      × (leaves (is_ok a) (plain_next (design_of file) board) next ≡ (cycle_call file board next).next))
   unfolding cycle_with
   cycle_ends next e = (
     sym e,
     (
-      ap (λ (c : Clocked). leaves (is_done c) (plain_values (design_of file) board) board) (sym e),
-      ap (λ (c : Clocked). leaves (is_done c) (plain_next (design_of file) board) next) (sym e),
+      ap (λ (c : Result (Unit {0}) Refused). leaves (is_ok c) (plain_values (design_of file) board) board) (sym e),
+      ap (λ (c : Result (Unit {0}) Refused). leaves (is_ok c) (plain_next (design_of file) board) next) (sym e),
     ),
   )

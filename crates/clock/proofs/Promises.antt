@@ -6,19 +6,16 @@ use mathlib.Core.List.{List}
 use Prim.Native.Nat.{ℕ, ◌^◌, ◌<◌}
 use native.Mathlib.Omega.{arith}
 use lib.ListN.{length, set}
+use Rattle.std.specs.Prelude.{Result, Ok, Err, is_ok}
 use Rattle.endian.specs.Lists.{word_at}
+use Rattle.netlist.specs.declared.refusal.Refused.{Refused}
 use Rattle.netlist.specs.Layout.{design_of, count_of, role_at}
-use Rattle.netlist.specs.Refusals.{leaves}
-use Rattle.netlist.specs.declared.refusal.Refusal.{Refusal}
+use Rattle.netlist.specs.Refusals.{leaves, refused}
 use Rattle.netlist.specs.declared.refusal.Refusal.TheVariants.{BadList}
 use Rattle.rules.specs.Sound.{Sound}
-use Rattle.rules.specs.declared.Checked.{Checked}
-use Rattle.rules.specs.declared.Checked.TheVariants.{Accepted, Refused as refused}
 use Rattle.rules.proofs.Acceptance.{accepted}
-use Rattle.clock.specs.Call.{answer_after, is_wide, is_done, start_call, cycle_with, cycle_call}
+use Rattle.clock.specs.Call.{answer_after, is_wide, start_call, cycle_with, cycle_call}
 use Rattle.clock.specs.Values.{unchanged, value_at, values_of, plain_values, plain_next, next_word, next_of, start_word, start_of}
-use Rattle.clock.specs.declared.Clocked.{Clocked}
-use Rattle.clock.specs.declared.Clocked.TheVariants.{Done, Refused}
 use Rattle.clock.proofs.CallLaws.{both_fit}
 use Rattle.clock.proofs.StateLaws.{start_word_at, next_word_at, start_passes, next_passes}
 use Rattle.clock.proofs.ValueLaws.{value_defined, values_narrow}
@@ -26,27 +23,27 @@ use Rattle.clock.proofs.ValueLaws.{value_defined, values_narrow}
 -- ---- what it takes to be accepted
 
 -- the file was accepted, the lists have room for its records, and nothing else was refused
-pub record Passed (c : Checked) (fit : ℕ → Bool) (rest : Clocked) : Type 0 where
+pub record Passed (c : Result ℕ Refused) (fit : ℕ → Bool) (rest : Result (Unit {0}) Refused) : Type 0 where
   pub count : ℕ
-  pub checked : c ≡ Accepted count
+  pub checked : c ≡ Ok count
   pub room : fit count ≡ true
-  pub clear : rest ≡ Done
+  pub clear : rest ≡ Ok tt
 
-pub passed : (c : Checked) (fit : ℕ → Bool) (rest : Clocked) → answer_after c fit rest ≡ Done → Passed c fit rest
+pub passed : (c : Result ℕ Refused) (fit : ℕ → Bool) (rest : Result (Unit {0}) Refused) → answer_after c fit rest ≡ Ok tt → Passed c fit rest
 unfolding answer_after
-passed (refused r i) fit rest e = absurd (let z : ◌≡◌ {A = ℕ} 0 1 = cc in omega arith)
-passed (Accepted n) fit rest e = go (fit n) refl e
+passed (Err r) fit rest e = absurd (let z : ◌≡◌ {A = ℕ} 0 1 = cc in omega arith)
+passed (Ok n) fit rest e = go (fit n) refl e
   where
-    go : (b : Bool) → fit n ≡ b → cond b rest (Refused BadList 0) ≡ Done → Passed (Accepted n) fit rest
+    go : (b : Bool) → fit n ≡ b → cond b rest (Err (refused BadList 0)) ≡ Ok tt → Passed (Ok n) fit rest
     go true q e = record { count = n; checked = refl; room = q; clear = e }
     go false q e = absurd (let z : ◌≡◌ {A = ℕ} 0 1 = cc in omega arith)
 
 -- ---- start
 
-module _ (file board : List ℕ) (e : (start_call file board).answer ≡ Done) where
+module _ (file board : List ℕ) (e : (start_call file board).answer ≡ (Ok tt)) where
   pub start_left : (start_call file board).board ≡ start_of (design_of file)
   unfolding start_call
-  start_left = ap (λ (c : Clocked). leaves (is_done c) (start_of (design_of file)) board) e
+  start_left = ap (λ (c : Result (Unit {0}) Refused). leaves (is_ok c) (start_of (design_of file)) board) e
 
   -- "Start writes the reset states at the registers and 0 elsewhere in a board list."
   pub started : (i : ℕ) → i < count_of file → word_at (start_call file board).board i ≡ start_word (role_at (design_of file) i)
@@ -60,21 +57,21 @@ module _ (file board : List ℕ) (e : (start_call file board).answer ≡ Done) w
       ap (λ (l : List ℕ). is_wide (design_of file) l i) start_left ∙ start_passes (design_of file) (accepted file _ (passed _ _ _ e).checked).sound i h
 
 -- "No lent word or byte changes."
-pub start_refused : (file board : List ℕ) (r : Refusal) (i : ℕ) → (start_call file board).answer ≡ Refused r i → (start_call file board).board ≡ board
+pub start_refused : (file board : List ℕ) (r : Refused) → (start_call file board).answer ≡ Err r → (start_call file board).board ≡ board
 unfolding start_call
-start_refused file board r i e = ap (λ (c : Clocked). leaves (is_done c) (start_of (design_of file)) board) e
+start_refused file board r e = ap (λ (c : Result (Unit {0}) Refused). leaves (is_ok c) (start_of (design_of file)) board) e
 
 -- ---- cycle
 
 -- what an accepted cycle leaves, also where values are changed
-module _ (change : ℕ → ℕ → ℕ) (file board next : List ℕ) (e : (cycle_with change file board next).answer ≡ Done) where
+module _ (change : ℕ → ℕ → ℕ) (file board next : List ℕ) (e : (cycle_with change file board next).answer ≡ (Ok tt)) where
   pub values_left : (cycle_with change file board next).board ≡ values_of (design_of file) change board
   unfolding cycle_with
-  values_left = ap (λ (c : Clocked). leaves (is_done c) (values_of (design_of file) change board) board) e
+  values_left = ap (λ (c : Result (Unit {0}) Refused). leaves (is_ok c) (values_of (design_of file) change board) board) e
 
   pub next_left : (cycle_with change file board next).next ≡ next_of (design_of file) (values_of (design_of file) change board)
   unfolding cycle_with
-  next_left = ap (λ (c : Clocked). leaves (is_done c) (next_of (design_of file) (values_of (design_of file) change board)) next) e
+  next_left = ap (λ (c : Result (Unit {0}) Refused). leaves (is_ok c) (next_of (design_of file) (values_of (design_of file) change board)) next) e
 
   pub cycle_sound : Sound (design_of file)
   unfolding cycle_with
@@ -93,7 +90,7 @@ module _ (change : ℕ → ℕ → ℕ) (file board next : List ℕ) (e : (cycle
       ∙ next_passes (design_of file) cycle_sound i h (values_of (design_of file) change board)
       (λ j g. values_narrow (design_of file) cycle_sound change board board_length j g (narrow j))
 
-module _ (file board next : List ℕ) (e : (cycle_call file board next).answer ≡ Done) where
+module _ (file board next : List ℕ) (e : (cycle_call file board next).answer ≡ (Ok tt)) where
   abbrev left : (cycle_call file board next).board ≡ plain_values (design_of file) board
   left = values_left unchanged file board next e
 
@@ -121,10 +118,10 @@ module _ (file board next : List ℕ) (e : (cycle_call file board next).answer �
       ∙ ap (λ (l : List ℕ). next_word l (role_at (design_of file) i)) (sym left)
 
 -- "No lent word or byte changes."
-pub cycle_refused : (file board next : List ℕ) (r : Refusal) (i : ℕ) → (cycle_call file board next).answer ≡ Refused r i
+pub cycle_refused : (file board next : List ℕ) (r : Refused) → (cycle_call file board next).answer ≡ Err r
     → ((cycle_call file board next).board ≡ board) × ((cycle_call file board next).next ≡ next)
 unfolding cycle_with
-cycle_refused file board next r i e = (
-  ap (λ (c : Clocked). leaves (is_done c) (plain_values (design_of file) board) board) e,
-  ap (λ (c : Clocked). leaves (is_done c) (plain_next (design_of file) board) next) e,
+cycle_refused file board next r e = (
+  ap (λ (c : Result (Unit {0}) Refused). leaves (is_ok c) (plain_values (design_of file) board) board) e,
+  ap (λ (c : Result (Unit {0}) Refused). leaves (is_ok c) (plain_next (design_of file) board) next) e,
 )

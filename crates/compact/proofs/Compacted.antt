@@ -6,12 +6,12 @@ use mathlib.Core.List.{List}
 use Prim.Native.Nat.{ℕ, ◌≤◌, ◌<◌}
 use native.Mathlib.Omega.{arith}
 use lib.ListN.{length}
+use Rattle.std.specs.Prelude.{Ok}
 use Rattle.netlist.specs.Kinds.{kind_of, renumbered}
 use Rattle.netlist.specs.Layout.{Design, design_of, record_start, role_at}
 use Rattle.rules.specs.Check.{check_of}
 use Rattle.rules.specs.Encode.{StandsFor}
 use Rattle.rules.specs.Sound.{Sound}
-use Rattle.rules.specs.declared.Checked.TheVariants.{Accepted}
 use Rattle.rules.proofs.Acceptance.{accepted}
 use Rattle.rules.proofs.Encoded.{encoded}
 use Rattle.rules.proofs.EncodedBytes.{length_encode}
@@ -65,7 +65,7 @@ module _ (d : Design) (s : Sound d) (masks : List ℕ) where
     other_becomes e = record_is ∙ ap (renumbered_record (new_number d masks)) (none_here (is_blank d masks) (trim_design d masks) i e)
 
 -- the file that holds it
-module _ (file : List ℕ) (n : ℕ) (e : check_of file ≡ Accepted n) where
+module _ (file : List ℕ) (n : ℕ) (e : check_of file ≡ Ok n) where
   abbrev d : Design
   d = design_of file
 

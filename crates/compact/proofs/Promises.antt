@@ -8,29 +8,26 @@ use Prim.Native.Nat.{ℕ, ◌≤◌, ◌<◌}
 use native.Mathlib.Omega.{arith}
 use lib.ListN.{length, take}
 use lib.Seq.{sets, sets-eq, length-sets, take_at}
+use Rattle.std.specs.Prelude.{Result, Ok, Err, is_ok}
 use Rattle.endian.proofs.Stores.{stored_outside}
+use Rattle.netlist.specs.declared.refusal.Refused.{Refused}
 use Rattle.netlist.specs.Layout.{Design, design_of, byte_at, record_at, record_start}
-use Rattle.netlist.specs.Refusals.{leaves}
+use Rattle.netlist.specs.Refusals.{leaves, refused}
 use Rattle.netlist.specs.declared.record.Kind.TheVariants.{Constant}
 use Rattle.netlist.specs.declared.refusal.Refusal.{Refusal}
 use Rattle.rules.specs.Check.{check_of}
-use Rattle.rules.specs.declared.Checked.{Checked}
-use Rattle.rules.specs.declared.Checked.TheVariants.{Accepted, Refused as refused}
 use Rattle.rules.proofs.Acceptance.{accepted}
+use Rattle.care.specs.declared.Tally.{Tally}
 use Rattle.care.specs.Least.{mask_at, masks_of}
 use Rattle.care.proofs.Families.{same_or_not}
 use Rattle.care.proofs.LeastMasks.{masks_least}
 use Rattle.care.specs.Call.{masks_call}
-use Rattle.care.specs.declared.Tallied.{Tallied}
-use Rattle.care.specs.declared.Tallied.TheVariants.{Done as tallied, Refused as no_tally}
 use Rattle.trim.specs.Call.{trim_call}
 use Rattle.trim.specs.Trimmed.{trim_record, trim_design}
 use Rattle.trim.proofs.Promises as trim
-use Rattle.compact.specs.Call.{CompactCall, is_done, compact_answer, compact_after, compact_call}
+use Rattle.compact.specs.Call.{CompactCall, compact_answer, compact_after, compact_call}
 use Rattle.compact.specs.Part.{renumbered_record, compact, new_number, compacted}
 use Rattle.compact.specs.Survivors.{is_blank, with_blanks, blanked, Survivors, survives}
-use Rattle.compact.specs.declared.Written.{Written}
-use Rattle.compact.specs.declared.Written.TheVariants.{Done, Refused}
 use Rattle.compact.proofs.CallLaws.{refuse_compact, written, file_refused, list_refused, destination_refused, compact_done}
 use Rattle.compact.proofs.Compacted.{stands, length_compacted, not_longer, compact_part, compact_count, blank_becomes, other_becomes}
 use Rattle.compact.proofs.PartLaws.{part_below}
@@ -41,29 +38,29 @@ use Rattle.compact.proofs.SurvivorLaws.{survivors}
 -- the file is accepted, the mask list has a word for each record, and "The destination has the old length"
 pub record Accepts (file list destination : List ℕ) : Type 0 where
   pub count : ℕ
-  pub checked : check_of file ≡ Accepted count
+  pub checked : check_of file ≡ Ok count
   pub words : length list ≡ count
   pub room : length destination ≡ length file
 
 module _ (file list destination : List ℕ) where
-  done_not : {r : Refusal} {i size : ℕ} {P : Type 0} → compact_call file list destination ≡ refuse_compact r i list destination
-      → (compact_call file list destination).answer ≡ Done size → P
+  done_not : {r : Refused} {size : ℕ} {P : Type 0} → compact_call file list destination ≡ refuse_compact r list destination
+      → (compact_call file list destination).answer ≡ Ok size → P
   done_not q e =
       absurd (let w = sym (ap (λ (c : CompactCall). c.answer) q) ∙ e in let z : ◌≡◌ {A = ℕ} 0 1 = cc in omega arith)
 
-  module _ (size : ℕ) (e : (compact_call file list destination).answer ≡ Done size) where
-    by_room : (n : ℕ) → check_of file ≡ Accepted n → length list ≡ n → (length destination ≡ length file) ⊎ (length destination ≢ length file)
+  module _ (size : ℕ) (e : (compact_call file list destination).answer ≡ Ok size) where
+    by_room : (n : ℕ) → check_of file ≡ Ok n → length list ≡ n → (length destination ≡ length file) ⊎ (length destination ≢ length file)
         → Accepts file list destination
     by_room n q h (inl g) = record { count = n; checked = q; words = h; room = g }
     by_room n q h (inr g) = done_not (destination_refused file list destination q h g) e
 
-    by_size : (n : ℕ) → check_of file ≡ Accepted n → (length list ≡ n) ⊎ (length list ≢ n) → Accepts file list destination
+    by_size : (n : ℕ) → check_of file ≡ Ok n → (length list ≡ n) ⊎ (length list ≢ n) → Accepts file list destination
     by_size n q (inl h) = by_room n q h (same_or_not (length destination) (length file))
     by_size n q (inr h) = done_not (list_refused file list destination q h) e
 
-    by_check : (c : Checked) → check_of file ≡ c → Accepts file list destination
-    by_check (Accepted n) q = by_size n q (same_or_not (length list) n)
-    by_check (refused r i) q = done_not (file_refused file list destination q) e
+    by_check : (c : Result ℕ Refused) → check_of file ≡ c → Accepts file list destination
+    by_check (Ok n) q = by_size n q (same_or_not (length list) n)
+    by_check (Err r) q = done_not (file_refused file list destination q) e
 
     pub accepts : Accepts file list destination
     accepts = by_check (check_of file) refl
@@ -86,8 +83,8 @@ module _ (file list destination : List ℕ) (a : Accepts file list destination) 
   comes_to = compact_done file list destination a.count a.checked a.words a.room
 
   -- "the answer is the new length": 8 bytes, and 24 for each survivor
-  pub answers_length : (compact_call file list destination).answer ≡ Done (record_start (new_number (design_of file) (masks_of (design_of file)) a.count))
-  answers_length = ap (λ (c : CompactCall). c.answer) comes_to ∙ ap Done (length_compacted file a.count a.checked)
+  pub answers_length : (compact_call file list destination).answer ≡ Ok (record_start (new_number (design_of file) (masks_of (design_of file)) a.count))
+  answers_length = ap (λ (c : CompactCall). c.answer) comes_to ∙ ap Ok (length_compacted file a.count a.checked)
 
   -- "fills a lent mask list as trim does"
   pub fills : (compact_call file list destination).list ≡ masks_of (design_of file)
@@ -111,9 +108,9 @@ module _ (file list destination : List ℕ) (a : Accepts file list destination) 
   beyond_untouched p h = ap (λ (l : List ℕ). byte_at l p) leaves_it ∙ stored_outside (compacted file) destination 0 p (inr (omega arith))
 
   -- check accepts it, with as many records as survive
-  pub compacted_accepted : check_of (compacted file) ≡ Accepted (new_number (design_of file) (masks_of (design_of file)) (design_of file).count)
+  pub compacted_accepted : check_of (compacted file) ≡ Ok (new_number (design_of file) (masks_of (design_of file)) (design_of file).count)
   compacted_accepted =
-      (stands file a.count a.checked).accepted ∙ ap Accepted (compact_count d (accepted file a.count a.checked).sound (masks_of d))
+      (stands file a.count a.checked).accepted ∙ ap Ok (compact_count d (accepted file a.count a.checked).sound (masks_of d))
 
   -- "Inputs and outputs survive. .. Whatever any other survivor names survives too, and nothing else does."
   pub who_survives : Survivors (design_of file) (masks_of (design_of file)) (survives (design_of file) (masks_of (design_of file)))
@@ -145,7 +142,7 @@ module _ (file list destination : List ℕ) (a : Accepts file list destination) 
     record_written b = read ∙ other_becomes d (accepted file a.count a.checked).sound (masks_of d) i h t b
 
 -- the front of what an accepted call leaves, by its answer
-pub front_compacted : (file list destination : List ℕ) (size : ℕ) → (compact_call file list destination).answer ≡ Done size
+pub front_compacted : (file list destination : List ℕ) (size : ℕ) → (compact_call file list destination).answer ≡ Ok size
     → take size (compact_call file list destination).destination ≡ compacted file
 front_compacted file list destination size e =
     ap (λ (n : ℕ). take n (compact_call file list destination).destination) (size_compacted file list destination size e)
@@ -153,15 +150,15 @@ front_compacted file list destination size e =
 
 -- ---- a refused call: "No lent word or byte changes"
 
-refused_back : (a : Tallied) (size : ℕ) (r : Refusal) (i : ℕ) → compact_answer a size ≡ Refused r i → a ≡ no_tally r i
+refused_back : (a : Result Tally Refused) (size : ℕ) (r : Refused) → compact_answer a size ≡ Err r → a ≡ Err r
 unfolding compact_answer
-refused_back (tallied t) size r i e = absurd (let z : ◌≡◌ {A = ℕ} 0 1 = cc in omega arith)
-refused_back (no_tally q j) size r i e = cc
+refused_back (Ok t) size r e = absurd (let z : ◌≡◌ {A = ℕ} 0 1 = cc in omega arith)
+refused_back (Err r) size r e = cc
 
-pub untouched : (file list destination : List ℕ) (r : Refusal) (i : ℕ) → (compact_call file list destination).answer ≡ Refused r i
+pub untouched : (file list destination : List ℕ) (r : Refused) → (compact_call file list destination).answer ≡ Err r
     → ((compact_call file list destination).list ≡ list) × ((compact_call file list destination).destination ≡ destination)
 unfolding compact_after
-untouched file list destination r i e = (
-  (trim.untouched (masks_call file list) file list destination r i (refused_back (trim_call file list destination).answer _ r i e)).0,
-  ap (λ (w : Written). leaves (is_done w) (sets destination 0 (compacted file)) destination) e,
+untouched file list destination r e = (
+  (trim.untouched (masks_call file list) file list destination r (refused_back (trim_call file list destination).answer _ r e)).0,
+  ap (λ (w : Result ℕ Refused). leaves (is_ok w) (sets destination 0 (compacted file)) destination) e,
 )

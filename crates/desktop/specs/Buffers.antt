@@ -1,17 +1,16 @@
 -- What a call of the desktop does with the byte buffers lent to it, refused calls included.
 -- Assumes nothing.
-use Rattle.std.specs.Prelude.{List, ℕ, ◌*◌}
+use Rattle.std.specs.Prelude.{List, ℕ, ◌*◌, Ok}
 use Rattle.endian.specs.Bytes.{word_bytes}
 use Rattle.netlist.specs.Layout.{Design, design_of}
 use Rattle.rules.specs.Check.{check_of}
 use Rattle.care.specs.Call.{MasksCall, tally_of, call_after}
 use Rattle.care.specs.Least.{masks_of}
-use Rattle.care.specs.declared.Tallied.TheVariants.{Done}
 use Rattle.trim.specs.Call.{TrimCall, trim_after}
 
 -- An accepted call of masks: the tally, and the masks as bytes.
 abbrev pub fill_buffer : Design → MasksCall
-fill_buffer d = record { answer = Done (tally_of d (masks_of d)); list = word_bytes (masks_of d) }
+fill_buffer d = record { answer = Ok (tally_of d (masks_of d)); list = word_bytes (masks_of d) }
 
 -- "there a mask list is 8 × n bytes, and another length is 11"
 unfoldable pub masks_buffer : List ℕ → List ℕ → MasksCall

@@ -1,10 +1,9 @@
 // Lists of words in place of buffers of bytes.
 // A caller of `write_accepted` has 8 bytes for each word where the call was accepted.
-ghost use Rattle.std.specs.Prelude.{◌≡◌, ◌+◌, ◌≤◌, length};
+ghost use Rattle.std.specs.Prelude.{◌≡◌, ◌+◌, ◌≤◌, length, is_ok};
 ghost use Rattle.endian.specs.Bytes.{word_bytes};
 ghost use Rattle.netlist.specs.Limits.{max_count};
 ghost use Rattle.netlist.specs.Refusals.{leaves};
-ghost use Rattle.trim.specs.Call.{is_done};
 ghost use Rattle.desktop.specs.Words.{Matches, Room};
 
 use care::Tallied;
@@ -35,7 +34,7 @@ pub fn word_count(bytes: usize) -> usize
 // Writes the words of an accepted call as bytes.
 pub fn write_accepted(answer: Tallied, words: &[u64], buffer: &mut [u8])
     requires { Room answer (length words.now) (length buffer.old) }
-    ensures { buffer.new ≡ leaves (is_done answer) (word_bytes words.now) buffer.old }
+    ensures { buffer.new ≡ leaves (is_ok answer) (word_bytes words.now) buffer.old }
 {
     match answer {
         Tallied::Done(_) => write_words(buffer, words),

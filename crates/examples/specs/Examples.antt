@@ -1,23 +1,19 @@
 -- The examples of 01 that are marked P: one table, each row from the bytes of a file; refused multipliers, a run, lists to trim by, compacted files and
 -- boards that change over, as further ones.
 -- Assumes nothing.
-use Rattle.std.specs.Prelude.{List, [], ◌∷◌, ◌++◌, ℕ, length}
+use Rattle.std.specs.Prelude.{List, [], ◌∷◌, ◌++◌, ℕ, length, Result, Ok, Err}
 use Rattle.endian.specs.Bytes.{bytes}
 use Rattle.endian.specs.Lists.{words_of}
 use Rattle.bits.specs.Words.{low_mask}
+use Rattle.netlist.specs.declared.refusal.Refused.{Refused}
 use Rattle.netlist.specs.Layout.{count_of}
 use Rattle.netlist.specs.Refusals.{number_of}
+use Rattle.care.specs.declared.Tally.{Tally}
 use Rattle.care.specs.Call.{masks_call}
-use Rattle.care.specs.declared.Tallied.{Tallied}
-use Rattle.care.specs.declared.Tallied.TheVariants.{Done, Refused}
 use Rattle.clock.specs.Call.{cycle_call}
 use Rattle.clock.specs.Values.{unchanged}
-use Rattle.clock.specs.declared.Clocked.{Clocked}
-use Rattle.clock.specs.declared.Clocked.TheVariants.{Done as clocked, Refused as not_clocked}
 use Rattle.trim.specs.CallBy.{trim_by_call}
 use Rattle.compact.specs.Call.{compact_call}
-use Rattle.compact.specs.declared.Written.{Written}
-use Rattle.compact.specs.declared.Written.TheVariants.{Done as written, Refused as not_written}
 use Rattle.changeover.specs.Call.{change_over_call}
 use Rattle.agreement.specs.Runs.{Call, start, cycle, Cycle, run_of, of_file, cycles_of}
 
@@ -92,9 +88,9 @@ abbrev nibble : List ℕ
 nibble = file_with (kept 0 8 0 0 0 0 0x0f ∷ [])
 
 -- What `masks` prints of a file: n and the two tally numbers, and the mask of each record.
-abbrev answer_of : Tallied → List ℕ
-answer_of (Done t) = t.widths ∷ t.ones ∷ []
-answer_of (Refused r i) = number_of r ∷ i ∷ []
+abbrev answer_of : Result Tally Refused → List ℕ
+answer_of (Ok t) = t.widths ∷ t.ones ∷ []
+answer_of (Err r) = number_of r.refusal ∷ r.at ∷ []
 
 abbrev masks_say : List ℕ → List ℕ
 masks_say file =
@@ -178,9 +174,9 @@ list_answers =
 abbrev old : ℕ → List ℕ
 old n = words_of (λ i. 0xee) n
 
-abbrev length_of : Written → List ℕ
-length_of (written size) = size ∷ []
-length_of (not_written r i) = number_of r ∷ i ∷ []
+abbrev length_of : Result ℕ Refused → List ℕ
+length_of (Ok size) = size ∷ []
+length_of (Err r) = number_of r.refusal ∷ r.at ∷ []
 
 abbrev compact_says : List ℕ → List ℕ
 compact_says file =
@@ -228,9 +224,9 @@ compact_said = (8 ∷ (file_with [] ++ old 72)) ∷ (152 ∷ shift_chain) ∷ (2
 
 -- What change_over answers for a file, a mask list and a board list, and then the new list that it leaves, not from 01. Before the call each word of that
 -- is hex ee. An accepted call has no number.
-abbrev accepted_of : Clocked → List ℕ
-accepted_of clocked = []
-accepted_of (not_clocked r i) = number_of r ∷ i ∷ []
+abbrev accepted_of : Result (Unit {0}) Refused → List ℕ
+accepted_of (Ok done) = []
+accepted_of (Err r) = number_of r.refusal ∷ r.at ∷ []
 
 abbrev change_says : List ℕ → List ℕ → List ℕ → List ℕ
 change_says file list board =

@@ -6,25 +6,25 @@ use Prim.Native.Nat.{ℕ}
 use lib.Dec.{eqb}
 use lib.ListN.{length}
 use borrow.Author.Tests.{eq-eqb, ne_eqb}
+use Rattle.std.specs.Prelude.{Result, Ok, Err}
+use Rattle.netlist.specs.Refusals.{refused}
+use Rattle.netlist.specs.declared.refusal.Refused.{Refused}
 use Rattle.netlist.specs.Layout.{design_of}
 use Rattle.netlist.specs.declared.refusal.Refusal.TheVariants.{BadList}
 use Rattle.rules.specs.Check.{check_of}
-use Rattle.rules.specs.declared.Checked.{Checked}
-use Rattle.rules.specs.declared.Checked.TheVariants.{Accepted}
 use Rattle.clock.specs.Call.{start_call}
 use Rattle.clock.specs.Values.{start_of}
-use Rattle.clock.specs.declared.Clocked.TheVariants.{Done, Refused}
 use Rattle.clock.proofs.CallLaws.{answer_bad_list, answer_fit, start_ends}
 
-module _ (file board : List ℕ) (n : ℕ) (checked : Checked) (e : checked ≡ check_of file) (a : checked ≡ Accepted n) where
-  pub unfit_answer : (length board ≡ n → ⊥) → Refused BadList 0 ≡ (start_call file board).answer
-  unfit_answer q = (start_ends file board (answer_bad_list (λ m. eqb (length board) m) Done (sym e ∙ a) (ne_eqb (length board) n q))).0
+module _ (file board : List ℕ) (n : ℕ) (checked : Result ℕ Refused) (e : checked ≡ check_of file) (a : checked ≡ Ok n) where
+  pub unfit_answer : (length board ≡ n → ⊥) → Err (refused BadList 0) ≡ (start_call file board).answer
+  unfit_answer q = (start_ends file board (answer_bad_list (λ m. eqb (length board) m) (Ok tt) (sym e ∙ a) (ne_eqb (length board) n q))).0
 
   pub unfit_board : (length board ≡ n → ⊥) → board ≡ (start_call file board).board
-  unfit_board q = (start_ends file board (answer_bad_list (λ m. eqb (length board) m) Done (sym e ∙ a) (ne_eqb (length board) n q))).1
+  unfit_board q = (start_ends file board (answer_bad_list (λ m. eqb (length board) m) (Ok tt) (sym e ∙ a) (ne_eqb (length board) n q))).1
 
-  pub fit_answer : length board ≡ n → Done ≡ (start_call file board).answer
-  fit_answer q = (start_ends file board (answer_fit (λ m. eqb (length board) m) Done (sym e ∙ a) (eq-eqb (length board) n q))).0
+  pub fit_answer : length board ≡ n → (Ok tt) ≡ (start_call file board).answer
+  fit_answer q = (start_ends file board (answer_fit (λ m. eqb (length board) m) (Ok tt) (sym e ∙ a) (eq-eqb (length board) n q))).0
 
   pub fit_board : (new : List ℕ) → new ≡ start_of (design_of file) → length board ≡ n → new ≡ (start_call file board).board
-  fit_board new r q = r ∙ (start_ends file board (answer_fit (λ m. eqb (length board) m) Done (sym e ∙ a) (eq-eqb (length board) n q))).1
+  fit_board new r q = r ∙ (start_ends file board (answer_fit (λ m. eqb (length board) m) (Ok tt) (sym e ∙ a) (eq-eqb (length board) n q))).1

@@ -2,11 +2,11 @@
 // Both ask nothing of their callers; the functions below them ask for an accepted file and lists of n words.
 #![tactic(auto)]
 
-ghost use Rattle.std.specs.Prelude.{◌≡◌};
+ghost use Rattle.std.specs.Prelude.{◌≡◌, is_ok};
 ghost use Rattle.netlist.specs.Layout.{design_of};
 ghost use Rattle.netlist.specs.Refusals.{leaves};
 ghost use Rattle.rules.specs.Lent.{Lent};
-ghost use Rattle.clock.specs.Call.{both_have, words_answer, is_done, start_call, cycle_call};
+ghost use Rattle.clock.specs.Call.{both_have, words_answer, start_call, cycle_call};
 ghost use Rattle.clock.specs.Values.{plain_values, plain_next};
 
 use board::load::load;
@@ -37,8 +37,8 @@ pub fn check_words(file: &[u8], board: &[u64]) -> Clocked
 fn run(file: &[u8], board: &mut [u64], next: &mut [u64]) -> Clocked
     requires { Lent file.now board.old × Lent file.now next.old }
     ensures answer { result ≡ words_answer (design_of file.now) board.old }
-    ensures board { board.new ≡ leaves (is_done result) (plain_values (design_of file.now) board.old) board.old }
-    ensures next { next.new ≡ leaves (is_done result) (plain_next (design_of file.now) board.old) next.old }
+    ensures board { board.new ≡ leaves (is_ok result) (plain_values (design_of file.now) board.old) board.old }
+    ensures next { next.new ≡ leaves (is_ok result) (plain_next (design_of file.now) board.old) next.old }
 {
     match check_words(file, board) {
         Clocked::Done => {

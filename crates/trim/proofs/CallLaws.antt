@@ -6,40 +6,40 @@ use mathlib.Core.List.{List}
 use Prim.Native.Nat.{ℕ}
 use lib.ListN.{length}
 use borrow.Author.Tests.{eq-eqb, ne_eqb}
+use Rattle.std.specs.Prelude.{Ok, Err, is_ok}
+use Rattle.netlist.specs.declared.refusal.Refused.{Refused}
 use Rattle.netlist.specs.Layout.{design_of}
-use Rattle.netlist.specs.Refusals.{leaves}
+use Rattle.netlist.specs.Refusals.{leaves, refused}
 use Rattle.netlist.specs.declared.refusal.Refusal.{Refusal}
 use Rattle.netlist.specs.declared.refusal.Refusal.TheVariants.{BadList, BadDestination}
 use Rattle.rules.specs.Check.{check_of}
-use Rattle.rules.specs.declared.Checked.TheVariants.{Accepted, Refused as refused}
 use Rattle.care.specs.Call.{MasksCall, refuse, fill_masks, masks_call}
 use Rattle.care.specs.declared.Tally.{Tally}
-use Rattle.care.specs.declared.Tallied.TheVariants.{Done, Refused}
 use Rattle.care.proofs.CallLaws.{call_refused, call_bad_list, call_filled}
-use Rattle.trim.specs.Call.{TrimCall, trim_answer, is_done, trim_after, trim_call}
+use Rattle.trim.specs.Call.{TrimCall, trim_answer, trim_after, trim_call}
 use Rattle.trim.specs.Trimmed.{trimmed}
 
 -- a refused call, and one that writes both lists
 abbrev pub refuse_trim : Refusal → ℕ → List ℕ → List ℕ → TrimCall
-refuse_trim r i list destination = record { answer = Refused r i; list = list; destination = destination }
+refuse_trim r list destination = record { answer = Err r; list = list; destination = destination }
 
 abbrev pub written : Tally → List ℕ → List ℕ → TrimCall
-written tally list destination = record { answer = Done tally; list = list; destination = destination }
+written tally list destination = record { answer = Ok tally; list = list; destination = destination }
 
 module _ (masking : MasksCall) (file list destination : List ℕ) where
   abbrev after : MasksCall → TrimCall
   after m = trim_after m file list destination
 
-  pub trim_refused : {r : Refusal} {i : ℕ} → masking ≡ refuse r i list → trim_after masking file list destination ≡ refuse_trim r i list destination
+  pub trim_refused : {r : Refused} → masking ≡ refuse r list → trim_after masking file list destination ≡ refuse_trim r list destination
   unfolding trim_after trim_answer
   trim_refused e = ap after e
 
-  module _ {tally : Tally} {masks : List ℕ} (e : masking ≡ record { answer = Done tally; list = masks }) where
+  module _ {tally : Tally} {masks : List ℕ} (e : masking ≡ record { answer = Ok tally; list = masks }) where
     -- what the call comes to, by whether the destination fits
     abbrev ends : Bool → TrimCall
     ends fits =
-        let answer = trim_answer (Done tally) fits in
-        record { answer = answer; list = leaves (is_done answer) masks list; destination = leaves (is_done answer) (trimmed file) destination }
+        let answer = trim_answer (Ok tally) fits in
+        record { answer = answer; list = leaves (is_ok answer) masks list; destination = leaves (is_ok answer) (trimmed file) destination }
 
     pub trim_bad_destination : (length destination ≡ length file → ⊥) → trim_after masking file list destination ≡ refuse_trim BadDestination 0 list destination
     unfolding trim_after trim_answer
@@ -51,15 +51,15 @@ module _ (masking : MasksCall) (file list destination : List ℕ) where
 
 -- the refusals of a call, by the answer of check and the lengths of its lists
 module _ (file list destination : List ℕ) where
-  pub file_refused : {r : Refusal} {i : ℕ} → check_of file ≡ refused r i → trim_call file list destination ≡ refuse_trim r i list destination
+  pub file_refused : {r : Refused} → check_of file ≡ Err r → trim_call file list destination ≡ refuse_trim r list destination
   unfolding masks_call
   file_refused e = trim_refused _ file list destination (call_refused (λ n. n) file (fill_masks (design_of file)) list e)
 
-  pub list_refused : {n : ℕ} → check_of file ≡ Accepted n → (length list ≡ n → ⊥) → trim_call file list destination ≡ refuse_trim BadList 0 list destination
+  pub list_refused : {n : ℕ} → check_of file ≡ Ok n → (length list ≡ n → ⊥) → trim_call file list destination ≡ refuse_trim BadList 0 list destination
   unfolding masks_call
   list_refused e h = trim_refused _ file list destination (call_bad_list (λ n. n) file (fill_masks (design_of file)) list e h)
 
-  pub destination_refused : {n : ℕ} → check_of file ≡ Accepted n → length list ≡ n → (length destination ≡ length file → ⊥)
+  pub destination_refused : {n : ℕ} → check_of file ≡ Ok n → length list ≡ n → (length destination ≡ length file → ⊥)
       → trim_call file list destination ≡ refuse_trim BadDestination 0 list destination
   unfolding masks_call
   destination_refused e h g = trim_bad_destination _ file list destination (call_filled (λ n. n) file (fill_masks (design_of file)) list e h) g

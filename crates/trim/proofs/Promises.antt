@@ -4,25 +4,24 @@ use mathlib.Core.Path.{◌≡◌, sym, ap, subst}
 use mathlib.Core.List.{List}
 use Prim.Native.Nat.{ℕ, ◌<◌}
 use lib.ListN.{length}
+use Rattle.std.specs.Prelude.{Result, Ok, Err, is_ok}
+use Rattle.netlist.specs.declared.refusal.Refused.{Refused}
 use Rattle.netlist.specs.Layout.{design_of, byte_at, count_of, keep_at, record_at}
-use Rattle.netlist.specs.Refusals.{leaves}
-use Rattle.netlist.specs.declared.refusal.Refusal.{Refusal}
+use Rattle.netlist.specs.Refusals.{leaves, refused}
 use Rattle.rules.specs.Check.{check_of}
 use Rattle.rules.specs.Sound.{SameDesign}
-use Rattle.rules.specs.declared.Checked.TheVariants.{Accepted}
 use Rattle.signal.specs.Asks.{demand_of}
+use Rattle.care.specs.declared.Tally.{Tally}
 use Rattle.care.specs.Call.{MasksCall, tally_of, masks_call}
 use Rattle.care.specs.Least.{mask_at, masks_of}
-use Rattle.care.specs.declared.Tallied.{Tallied}
-use Rattle.care.specs.declared.Tallied.TheVariants.{Refused}
 use Rattle.care.proofs.Promises.{filled}
-use Rattle.trim.specs.Call.{TrimCall, is_done, trim_after, trim_call}
+use Rattle.trim.specs.Call.{TrimCall, trim_after, trim_call}
 use Rattle.trim.specs.Trimmed.{trimmed, trim_design, Outside}
 use Rattle.trim.proofs.CallLaws.{written, trim_done}
 use Rattle.trim.proofs.Trimmed.{byte_same, size_same, keep_cut, holds_cut, trim_accepted}
 
 -- an accepted call
-module _ (file list destination : List ℕ) (n : ℕ) (e : check_of file ≡ Accepted n) (h : length list ≡ n) (g : length destination ≡ length file) where
+module _ (file list destination : List ℕ) (n : ℕ) (e : check_of file ≡ Ok n) (h : length list ≡ n) (g : length destination ≡ length file) where
   -- "fills a lent mask list with them and writes a file of equal length to a destination", and answers "with the tally"
   pub writes : trim_call file list destination ≡ written (tally_of (design_of file) (masks_of (design_of file))) (masks_of (design_of file)) (trimmed file)
   writes = trim_done (masks_call file list) file list destination (filled file list n e h) g
@@ -50,12 +49,12 @@ module _ (file list destination : List ℕ) (n : ℕ) (e : check_of file ≡ Acc
   pub holds_D : SameDesign (trim_design (design_of file) call.list) (design_of call.destination)
   holds_D = of_call (λ masks other. SameDesign (trim_design (design_of file) masks) (design_of other)) (holds_cut file n e (masks_of (design_of file)))
 
-  pub still_accepted : check_of call.destination ≡ Accepted n
-  still_accepted = of_call (λ masks other. check_of other ≡ Accepted n) (trim_accepted file n e (masks_of (design_of file)))
+  pub still_accepted : check_of call.destination ≡ Ok n
+  still_accepted = of_call (λ masks other. check_of other ≡ Ok n) (trim_accepted file n e (masks_of (design_of file)))
 
 -- "No lent word or byte changes": a call that answers with a refusal leaves both lists as they were, of words or of bytes
-pub untouched : (masking : MasksCall) (file list destination : List ℕ) (r : Refusal) (i : ℕ) → (trim_after masking file list destination).answer ≡ Refused r i
+pub untouched : (masking : MasksCall) (file list destination : List ℕ) (r : Refused) → (trim_after masking file list destination).answer ≡ Err r
     → ((trim_after masking file list destination).list ≡ list) × ((trim_after masking file list destination).destination ≡ destination)
 unfolding trim_after
-untouched masking file list destination r i e =
-    (ap (λ (a : Tallied). leaves (is_done a) masking.list list) e, ap (λ (a : Tallied). leaves (is_done a) (trimmed file) destination) e)
+untouched masking file list destination r e =
+    (ap (λ (a : Result Tally Refused). leaves (is_ok a) masking.list list) e, ap (λ (a : Result Tally Refused). leaves (is_ok a) (trimmed file) destination) e)

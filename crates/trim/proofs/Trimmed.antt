@@ -7,6 +7,7 @@ use native.Mathlib.Nat.{add-zero}
 use native.Mathlib.Omega.{arith}
 use lib.Dec.{lit<}
 use lib.ListN.{length}
+use Rattle.std.specs.Prelude.{Ok}
 use Rattle.endian.specs.Bytes.{number_at}
 use Rattle.endian.proofs.Stores.{number_same}
 use Rattle.bits.proofs.Order.{meet_right, within_lt}
@@ -16,7 +17,6 @@ use Rattle.netlist.specs.Rules.{AllHold}
 use Rattle.rules.specs.Fit.{operand_limit, field_rules, operand_rules, width_rules_at}
 use Rattle.rules.specs.Check.{check_of, header_rules, record_rules}
 use Rattle.rules.specs.Sound.{Sound, SoundRecord, SameDesign}
-use Rattle.rules.specs.declared.Checked.TheVariants.{Accepted}
 use Rattle.rules.proofs.Acceptance.{accepted, accepted_kept, kept_accepted, rule_facts, facts_rules}
 use Rattle.rules.proofs.CheckLaws.{Kept}
 use Rattle.rules.proofs.SoundLaws.{word_64, names_same, record_same}
@@ -45,7 +45,7 @@ module _ (d : Design) (s : Sound d) (masks : List ℕ) where
   unfolding trim_design
   trim_sound = record { few = s.few; each = cut_sound }
 
-module _ (file : List ℕ) (n : ℕ) (e : check_of file ≡ Accepted n) (masks : List ℕ) where
+module _ (file : List ℕ) (n : ℕ) (e : check_of file ≡ Ok n) (masks : List ℕ) where
   abbrev other : List ℕ
   other = trimmed_by file masks
 
@@ -140,7 +140,7 @@ module _ (file : List ℕ) (n : ℕ) (e : check_of file ≡ Accepted n) (masks :
         fields = fields_kept i h;
       })
 
-  pub trim_accepted : check_of other ≡ Accepted n
+  pub trim_accepted : check_of other ≡ Ok n
   trim_accepted =
       kept_accepted other (record { header = header_kept; each = λ i h. record_kept i (let q = count_same in omega arith) })
-      ∙ ap Accepted (count_same ∙ sym (accepted file n e).count)
+      ∙ ap Ok (count_same ∙ sym (accepted file n e).count)

@@ -1,11 +1,10 @@
 // The operation `trim_by`: writes the file that a given list of masks cuts, and answers with the list's tally.
 // `trim_by` asks nothing of its caller; the functions below it ask for an accepted file and a list of n words. Nothing is written before the
 // last refusal has been ruled out.
-ghost use Rattle.std.specs.Prelude.{◌≡◌, length};
+ghost use Rattle.std.specs.Prelude.{◌≡◌, length, is_ok};
 ghost use Rattle.netlist.specs.Layout.{design_of};
 ghost use Rattle.netlist.specs.Refusals.{leaves};
 ghost use Rattle.rules.specs.Lent.{Lent};
-ghost use Rattle.trim.specs.Call.{is_done};
 ghost use Rattle.trim.specs.CallBy.{list_answer, trim_by_call};
 ghost use Rattle.trim.specs.Trimmed.{trimmed_by};
 
@@ -33,7 +32,7 @@ fn judge(file: &[u8], list: &[u64]) -> Tallied
 fn write_by(file: &[u8], list: &[u64], destination: &mut [u8]) -> Tallied
     requires { Lent file.now list.now × (length destination.old ≡ length file.now) }
     ensures answer { result ≡ list_answer (design_of file.now) list.now }
-    ensures destination { destination.new ≡ leaves (is_done result) (trimmed_by file.now list.now) destination.old }
+    ensures destination { destination.new ≡ leaves (is_ok result) (trimmed_by file.now list.now) destination.old }
 {
     match judge(file, list) {
         Tallied::Done(tally) => {

@@ -6,9 +6,10 @@ use Prim.Native.Nat.{ℕ}
 use native.Mathlib.Omega.{arith}
 use lib.ListN.{length}
 use lib.Seq.{sets}
+use Rattle.std.specs.Prelude.{Ok}
+use Rattle.netlist.specs.declared.refusal.Refused.{Refused}
 use Rattle.rules.proofs.Acceptance.{accepted, lent, with_count}
 use Rattle.care.proofs.LeastMasks.{masks_length}
-use Rattle.compact.specs.declared.Written.TheVariants.{Done}
 use Rattle.compact.proofs.CallLaws.{file_refused, list_refused, destination_refused, compact_done, all_of}
 use Rattle.compact.specs.Part.{compacted_by}
 use Rattle.compactor.proofs.compact.Goals as goal
@@ -52,7 +53,7 @@ returns-else-destination-file c = let fill = c.fill in
     let fill = fill.ensures.list in let front = c.write_front.ensures in
     let b = all_of _ _ (compact_done file args.list.now destination _ (sym check.ensures ∙ c.in-Accepted.is)
     (let t = c.if-list-n.false in omega arith) (let t = c.if-destination-file.false in omega arith)) in record {
-      answer = ap Done (front.length ∙ ap (λ (l : List ℕ). length (compacted_by file l)) fill) ∙ b.0;
+      answer = ap Ok (front.length ∙ ap (λ (l : List ℕ). length (compacted_by file l)) fill) ∙ b.0;
       list = fill ∙ b.1.0;
       destination = front.destination ∙ ap (λ (l : List ℕ). sets destination 0 (compacted_by file l)) fill ∙ b.1.1;
     }

@@ -2,10 +2,11 @@
 -- Assumes nothing.
 use mathlib.Core.Path.{sym, ap, ◌∙◌}
 use native.Mathlib.Omega.{arith}
+use Rattle.std.specs.Prelude.{Ok}
+use Rattle.netlist.specs.declared.refusal.Refused.{Refused}
 use Rattle.netlist.specs.Layout.{design_of}
 use Rattle.rules.proofs.Acceptance.{accepted, lent}
 use Rattle.care.specs.Call.{masks_call, fill_masks}
-use Rattle.care.specs.declared.Tallied.TheVariants.{Done}
 use Rattle.care.proofs.CallLaws.{both_of, call_refused, call_bad_list, call_filled}
 use Rattle.masker.proofs.masks.Goals as goal
 
@@ -30,7 +31,7 @@ returns-else-list-n c = let args = c.args in
     let b = both_of _ _ (call_filled (λ n. n) file (fill_masks (design_of file)) args.list.now
     (sym c.check.ensures ∙ c.in-Accepted.is)
     (let t = c.if-list-n.false in omega arith)) in
-    record { answer = ap Done c.fill.ensures.tally ∙ b.0; list = c.fill.ensures.list ∙ b.1 }
+    record { answer = ap Ok c.fill.ensures.tally ∙ b.0; list = c.fill.ensures.list ∙ b.1 }
 
 pub returns-in-Refused : goal.returns-in-Refused
 unfolding masks_call

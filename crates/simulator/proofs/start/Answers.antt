@@ -4,8 +4,9 @@ use mathlib.Core.Path.{sym, ◌∙◌}
 use native.Mathlib.Omega.{arith}
 use lib.ListN.{length}
 use lib.Dec.{eqb}
+use Rattle.std.specs.Prelude.{Ok}
+use Rattle.netlist.specs.declared.refusal.Refused.{Refused}
 use Rattle.rules.proofs.Acceptance.{accepted, lent}
-use Rattle.clock.specs.declared.Clocked.TheVariants.{Done}
 use Rattle.clock.proofs.CallLaws.{answer_refused, start_ends}
 use Rattle.simulator.proofs.start.Goals as goal
 
@@ -15,5 +16,5 @@ reset-requires c = lent (accepted c.args.file.now _ (sym c.check.ensures ∙ c.i
 pub returns-in-Refused : goal.returns-in-Refused
 returns-in-Refused c =
     let board = c.args.board.now in
-    let b = start_ends c.args.file.now board (answer_refused (λ n. eqb (length board) n) Done (sym c.check.ensures ∙ c.in-Refused.is)) in
+    let b = start_ends c.args.file.now board (answer_refused (λ n. eqb (length board) n) (Ok tt) (sym c.check.ensures ∙ c.in-Refused.is)) in
     record { answer = b.0; board = b.1 }

@@ -1,8 +1,9 @@
 -- `trimmer::trim` meets its contract: the file, the mask list or the destination is refused, or both lists are written.
 -- Assumes nothing.
 use mathlib.Core.Path.{sym, ap, ◌∙◌}
+use Rattle.std.specs.Prelude.{Ok}
+use Rattle.netlist.specs.declared.refusal.Refused.{Refused}
 use Rattle.rules.proofs.Acceptance.{accepted, lent}
-use Rattle.care.specs.declared.Tallied.TheVariants.{Done}
 use Rattle.care.proofs.LeastMasks.{masks_length}
 use Rattle.trim.specs.Trimmed.{trimmed_by}
 use Rattle.trim.proofs.CallLaws.{file_refused, list_refused, destination_refused, all_of}
@@ -35,7 +36,7 @@ returns-else-destination-file c = let args = c.args in
     let b = all_of _ _ (writes file args.list.now args.destination.now _ (sym c.check.ensures ∙ c.in-Accepted.is)
     c.if-list-n.false c.if-destination-file.false) in
     record {
-      answer = ap Done fill.tally ∙ b.0;
+      answer = ap Ok fill.tally ∙ b.0;
       list = fill.list ∙ b.1.0;
       destination = c.write_trimmed.ensures ∙ ap (trimmed_by file) fill.list ∙ b.1.1;
     }

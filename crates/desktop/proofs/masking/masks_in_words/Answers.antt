@@ -3,11 +3,12 @@
 use mathlib.Core.Path.{sym, ap, ap₂, subst, ◌∙◌}
 use mathlib.Core.List.{List}
 use Prim.Native.Nat.{ℕ}
+use Rattle.std.specs.Prelude.{Result, is_ok}
 use Rattle.endian.specs.Bytes.{word_bytes}
+use Rattle.netlist.specs.declared.refusal.Refused.{Refused}
 use Rattle.netlist.specs.Refusals.{leaves}
+use Rattle.care.specs.declared.Tally.{Tally}
 use Rattle.care.specs.Call.{MasksCall}
-use Rattle.care.specs.declared.Tallied.{Tallied}
-use Rattle.trim.specs.Call.{is_done}
 use Rattle.answer.specs.Answer.{tallied_answer}
 use Rattle.answer.specs.Fits.{TalliedFits}
 use Rattle.answer.proofs.Fitting.{masks_fits}
@@ -31,6 +32,6 @@ returns c = let args = c.args in
       answer = c.of_tallied.ensures ∙ ap tallied_answer (masks.answer ∙ sym (ap (λ (m : MasksCall). m.answer) same));
       masks =
           c.write_accepted.ensures
-          ∙ ap₂ (λ (a : Tallied) (l : List ℕ). leaves (is_done a) (word_bytes l) buffer) masks.answer masks.list
+          ∙ ap₂ (λ (a : Result Tally Refused) (l : List ℕ). leaves (is_ok a) (word_bytes l) buffer) masks.answer masks.list
           ∙ sym (ap (λ (m : MasksCall). m.list) same);
     }

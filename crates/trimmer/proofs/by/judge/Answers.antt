@@ -2,8 +2,8 @@
 -- Assumes nothing.
 use mathlib.Core.Path.{sym, ap, ◌∙◌}
 use native.Mathlib.Omega.{arith}
+use Rattle.std.specs.Prelude.{Ok}
 use Rattle.netlist.specs.Layout.{design_of}
-use Rattle.care.specs.declared.Tallied.TheVariants.{Done}
 use Rattle.trim.proofs.CallByLaws.{list_broken, list_done, list_fits}
 use Rattle.trimmer.proofs.by.judge.Goals as goal
 
@@ -24,4 +24,4 @@ pub returns : goal.returns
 unfolding design_of
 returns c = let a = c.args in
     let e = c.requires.size in
-    ap Done c.tally_of.ensures ∙ sym (list_done (design_of a.file.now) a.list.now _ c.lowest_fault-low.ensures (omega arith))
+    ap Ok c.tally_of.ensures ∙ sym (list_done (design_of a.file.now) a.list.now _ c.lowest_fault-low.ensures (omega arith))

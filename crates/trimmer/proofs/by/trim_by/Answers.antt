@@ -1,14 +1,15 @@
 -- `trimmer::by::trim_by` meets its contract: the file, the list's length or the destination is refused, or the list decides.
 -- Assumes nothing.
 use mathlib.Core.Path.{sym, ap, ◌∙◌}
+use Rattle.std.specs.Prelude.{Result, is_ok}
+use Rattle.netlist.specs.declared.refusal.Refused.{Refused}
 use Rattle.netlist.specs.Refusals.{leaves}
 use Rattle.rules.proofs.Acceptance.{accepted, lent}
-use Rattle.care.specs.declared.Tallied.{Tallied}
+use Rattle.care.specs.declared.Tally.{Tally}
 use Rattle.trim.proofs.Promises.{writes}
 use Rattle.trim.proofs.CallByLaws.{by_refused, by_list, two_of}
 use Rattle.trim.proofs.CallLaws.{file_refused, list_refused, destination_refused}
 use Rattle.trim.specs.Trimmed.{trimmed_by}
-use Rattle.trim.specs.Call.{is_done}
 use Rattle.trimmer.proofs.by.trim_by.Goals as goal
 
 pub returns-then-list-n : goal.returns-then-list-n
@@ -46,7 +47,7 @@ returns-else-destination-file c = let a = c.args in
     (writes file list destination _ checked c.if-list-n.false c.if-destination-file.false)) in
     record {
       answer = written.answer ∙ b.0;
-      destination = written.destination ∙ ap (λ (t : Tallied). leaves (is_done t) (trimmed_by file list) destination) written.answer ∙ b.1;
+      destination = written.destination ∙ ap (λ (t : Result Tally Refused). leaves (is_ok t) (trimmed_by file list) destination) written.answer ∙ b.1;
     }
 
 pub returns-in-Refused : goal.returns-in-Refused
