@@ -9,6 +9,7 @@ use lib.Dec.{eqb}
 use borrow.Author.Tests.{eq-eqb, eqb-true}
 use Rattle.std.specs.Prelude.{Result, Ok, Err, is_ok}
 use Rattle.netlist.specs.declared.refusal.Refused.{Refused}
+use Rattle.netlist.proofs.RefusalLaws.{err_not_ok}
 use Rattle.netlist.specs.Layout.{Design, design_of}
 use Rattle.netlist.specs.Refusals.{leaves, refused}
 use Rattle.netlist.specs.declared.refusal.Refusal.TheVariants.{BadList, WideWord}
@@ -48,7 +49,7 @@ module _ (d : Design) (board : List ℕ) where
   unfolding words_answer
   words_clear =
       lowest_cases (is_wide d board) (λ i. Err (refused WideWord i)) (Ok tt) d.count (λ a. a ≡ Ok tt → Clear (is_wide d board) d.count)
-      (λ i h p c e. absurd (let z : ◌≡◌ {A = ℕ} 0 1 = cc in omega arith)) (λ clear e. clear)
+      (λ i h p c e. err_not_ok e) (λ clear e. clear)
 
   pub clear_words : ((i : ℕ) → i < d.count → is_wide d board i ≡ false) → words_answer d board ≡ Ok tt
   unfolding words_answer

@@ -4,5 +4,6 @@ pub mod KindLaws
 pub mod LowestLaws
 pub mod PickedLaws
 pub mod OperandLists
+pub mod RefusalLaws
 pub mod RoleLaws
 pub mod Tests
