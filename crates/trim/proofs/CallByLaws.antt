@@ -47,17 +47,17 @@ module _ (file list destination : List ℕ) where
   by_refused e = ap after e
 
   -- what is so of each end is so of the call
-  module _ (P : TrimByCall → Type 0) (refuses : (r : Refused) → (i ≡ 0) ⊎ (check_of file ≡ Err r) → P (answering (Err r) (trimmed_by file list) destination))
+  module _ (P : TrimByCall → Type 0) (refuses : (r : Refused) → (r.at ≡ 0) ⊎ (check_of file ≡ Err r) → P (answering (Err r) (trimmed_by file list) destination))
       (decides : (n : ℕ) → check_of file ≡ Ok n → length list ≡ n → length destination ≡ length file
       → P (answering (list_answer (design_of file) list) (trimmed_by file list) destination)) where
     by_room : (n : ℕ) → check_of file ≡ Ok n → length list ≡ n → (length destination ≡ length file) ⊎ (length destination ≢ length file)
         → P (trim_by_call file list destination)
     by_room n q h (inl g) = subst P (sym (by_list (writes file list destination n q h g))) (decides n q h g)
-    by_room n q h (inr g) = subst P (sym (by_refused (destination_refused file list destination q h g))) (refuses BadDestination 0 (inl refl))
+    by_room n q h (inr g) = subst P (sym (by_refused (destination_refused file list destination q h g))) (refuses (refused BadDestination 0) (inl refl))
 
     by_size : (n : ℕ) → check_of file ≡ Ok n → (length list ≡ n) ⊎ (length list ≢ n) → P (trim_by_call file list destination)
     by_size n q (inl h) = by_room n q h (same_or_not (length destination) (length file))
-    by_size n q (inr h) = subst P (sym (by_refused (list_refused file list destination q h))) (refuses BadList 0 (inl refl))
+    by_size n q (inr h) = subst P (sym (by_refused (list_refused file list destination q h))) (refuses (refused BadList 0) (inl refl))
 
     by_check : (c : Result ℕ Refused) → check_of file ≡ c → P (trim_by_call file list destination)
     by_check (Ok n) q = by_size n q (same_or_not (length list) n)

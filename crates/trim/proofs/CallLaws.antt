@@ -20,7 +20,7 @@ use Rattle.trim.specs.Call.{TrimCall, trim_answer, trim_after, trim_call}
 use Rattle.trim.specs.Trimmed.{trimmed}
 
 -- a refused call, and one that writes both lists
-abbrev pub refuse_trim : Refusal → ℕ → List ℕ → List ℕ → TrimCall
+abbrev pub refuse_trim : Refused → List ℕ → List ℕ → TrimCall
 refuse_trim r list destination = record { answer = Err r; list = list; destination = destination }
 
 abbrev pub written : Tally → List ℕ → List ℕ → TrimCall
@@ -41,7 +41,7 @@ module _ (masking : MasksCall) (file list destination : List ℕ) where
         let answer = trim_answer (Ok tally) fits in
         record { answer = answer; list = leaves (is_ok answer) masks list; destination = leaves (is_ok answer) (trimmed file) destination }
 
-    pub trim_bad_destination : (length destination ≡ length file → ⊥) → trim_after masking file list destination ≡ refuse_trim BadDestination 0 list destination
+    pub trim_bad_destination : (length destination ≡ length file → ⊥) → trim_after masking file list destination ≡ refuse_trim (refused BadDestination 0) list destination
     unfolding trim_after trim_answer
     trim_bad_destination h = ap after e ∙ ap ends (ne_eqb (length destination) (length file) h)
 
@@ -55,12 +55,12 @@ module _ (file list destination : List ℕ) where
   unfolding masks_call
   file_refused e = trim_refused _ file list destination (call_refused (λ n. n) file (fill_masks (design_of file)) list e)
 
-  pub list_refused : {n : ℕ} → check_of file ≡ Ok n → (length list ≡ n → ⊥) → trim_call file list destination ≡ refuse_trim BadList 0 list destination
+  pub list_refused : {n : ℕ} → check_of file ≡ Ok n → (length list ≡ n → ⊥) → trim_call file list destination ≡ refuse_trim (refused BadList 0) list destination
   unfolding masks_call
   list_refused e h = trim_refused _ file list destination (call_bad_list (λ n. n) file (fill_masks (design_of file)) list e h)
 
   pub destination_refused : {n : ℕ} → check_of file ≡ Ok n → length list ≡ n → (length destination ≡ length file → ⊥)
-      → trim_call file list destination ≡ refuse_trim BadDestination 0 list destination
+      → trim_call file list destination ≡ refuse_trim (refused BadDestination 0) list destination
   unfolding masks_call
   destination_refused e h g = trim_bad_destination _ file list destination (call_filled (λ n. n) file (fill_masks (design_of file)) list e h) g
 

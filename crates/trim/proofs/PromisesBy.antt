@@ -8,6 +8,7 @@ use native.Mathlib.Omega.{arith}
 use lib.ListN.{length}
 use Rattle.std.specs.Prelude.{Result, Ok, Err, is_ok}
 use Rattle.netlist.specs.declared.refusal.Refused.{Refused}
+use Rattle.netlist.proofs.RefusalLaws.{err_not_ok, err_same}
 use Rattle.netlist.specs.Layout.{Design, design_of, byte_at, count_of, keep_at, record_at}
 use Rattle.netlist.specs.Refusals.{leaves, refused}
 use Rattle.netlist.specs.declared.refusal.Refusal.TheVariants.{BadMask}
@@ -37,9 +38,6 @@ pub record Accepts (file list destination : List ℕ) : Type 0 where
   pub closed : Closed (design_of file) (output_seed (design_of file)) (mask_at list)
   pub room : length destination ≡ length file
 
-never_both : {t : Tally} {r : Refused} {P : Type 0} → Err r ≡ Ok t → P
-never_both e = absurd (let z : ◌≡◌ {A = ℕ} 0 1 = cc in omega arith)
-
 -- ---- the answer that the list gives
 
 module _ (d : Design) (list : List ℕ) where
@@ -54,15 +52,17 @@ module _ (d : Design) (list : List ℕ) where
   unfolding list_answer
   done_clear t =
       lowest_cases faulty (λ i. Err (refused BadMask i)) (Ok (tally_of d list)) d.count
-      (λ a. a ≡ Ok t → Clear faulty d.count) (λ i h p c. never_both) (λ c e. c)
+      (λ a. a ≡ Ok t → Clear faulty d.count) (λ i h p c. err_not_ok) (λ c e. c)
 
-  refused_lowest : (r : Refused) → list_answer d list ≡ Err r → (r ≡ BadMask) × ((i < d.count) × Lowest faulty d.count i)
+  refused_lowest : (r : Refused) → list_answer d list ≡ Err r → (r.refusal ≡ BadMask) × ((r.at < d.count) × Lowest faulty d.count r.at)
   unfolding list_answer
   refused_lowest r =
       lowest_cases faulty (λ i. Err (refused BadMask i)) (Ok (tally_of d list)) d.count
-      (λ a. a ≡ Err r → (r ≡ BadMask) × ((i < d.count) × Lowest faulty d.count i))
-      (λ j h p c e. (cc, subst (λ (k : ℕ). (k < d.count) × Lowest faulty d.count k) (cc) (h, record { low = omega arith; picked = λ l. p; clear = c })))
-      (λ c e. never_both (sym e))
+      (λ a. a ≡ Err r → (r.refusal ≡ BadMask) × ((r.at < d.count) × Lowest faulty d.count r.at))
+      (λ j h p c e.
+      subst (λ (s : Refused). (s.refusal ≡ BadMask) × ((s.at < d.count) × Lowest faulty d.count s.at)) (err_same e)
+      (refl, (h, record { low = omega arith; picked = λ l. p; clear = c })))
+      (λ c e. err_not_ok (sym e))
 
 -- ---- which lists are accepted
 
@@ -90,7 +90,7 @@ module _ (file list destination : List ℕ) where
   pub accepted_only_if : (t : Tally) → call.answer ≡ Ok t → Accepts file list destination
   unfolding design_of
   accepted_only_if t =
-      by_ends file list destination (λ c. c.answer ≡ Ok t → Accepts file list destination) (λ r e. never_both)
+      by_ends file list destination (λ c. c.answer ≡ Ok t → Accepts file list destination) (λ r e. err_not_ok)
       (λ n q h g e.
       let a = accepted file n q in
       let clear = done_clear d list t e in
@@ -172,7 +172,8 @@ module _ (file list destination : List ℕ) (r : Refused) where
 
   -- "14 when a list breaks a width or rule, .. with the lowest record whose mask lacks a called-for bit or has one outside its width"
   pub lowest_named : (n : ℕ) → check_of file ≡ Ok n → length list ≡ n → length destination ≡ length file → refusing.answer ≡ Err r
-      → (r ≡ BadMask) × ((i < (design_of file).count) × Lowest (is_faulty (design_of file) (output_seed (design_of file)) list) (design_of file).count i)
+      → (r.refusal ≡ BadMask)
+      × ((r.at < (design_of file).count) × Lowest (is_faulty (design_of file) (output_seed (design_of file)) list) (design_of file).count r.at)
   lowest_named n e h g q =
       refused_lowest (design_of file) list r (ap (λ (c : TrimByCall). c.answer) (sym (decided file list destination n e h g)) ∙ q)
 
