@@ -20,7 +20,7 @@ use Rattle.compact.specs.Call.{CompactCall, compact_answer, compact_after, compa
 use Rattle.compact.specs.Part.{compacted}
 
 -- a refused call, and one that writes both lists
-abbrev pub refuse_compact : Refusal → ℕ → List ℕ → List ℕ → CompactCall
+abbrev pub refuse_compact : Refused → List ℕ → List ℕ → CompactCall
 refuse_compact r list destination = record { answer = Err r; list = list; destination = destination }
 
 abbrev pub written : List ℕ → List ℕ → CompactCall
@@ -40,11 +40,11 @@ module _ (file list destination : List ℕ) where
   file_refused e = as_trim (trim.file_refused file list destination e)
 
   pub list_refused : {n : ℕ} → check_of file ≡ Ok n → (length list ≡ n → ⊥)
-      → compact_call file list destination ≡ refuse_compact BadList 0 list destination
+      → compact_call file list destination ≡ refuse_compact (refused BadList 0) list destination
   list_refused e h = as_trim (trim.list_refused file list destination e h)
 
   pub destination_refused : {n : ℕ} → check_of file ≡ Ok n → length list ≡ n → (length destination ≡ length file → ⊥)
-      → compact_call file list destination ≡ refuse_compact BadDestination 0 list destination
+      → compact_call file list destination ≡ refuse_compact (refused BadDestination 0) list destination
   destination_refused e h g = as_trim (trim.destination_refused file list destination e h g)
 
   pub compact_done : (n : ℕ) → check_of file ≡ Ok n → length list ≡ n → length destination ≡ length file

@@ -11,6 +11,7 @@ use lib.Seq.{sets, sets-eq, length-sets, take_at}
 use Rattle.std.specs.Prelude.{Result, Ok, Err, is_ok}
 use Rattle.endian.proofs.Stores.{stored_outside}
 use Rattle.netlist.specs.declared.refusal.Refused.{Refused}
+use Rattle.netlist.proofs.RefusalLaws.{err_not_ok, err_same}
 use Rattle.netlist.specs.Layout.{Design, design_of, byte_at, record_at, record_start}
 use Rattle.netlist.specs.Refusals.{leaves, refused}
 use Rattle.netlist.specs.declared.record.Kind.TheVariants.{Constant}
@@ -45,8 +46,7 @@ pub record Accepts (file list destination : List ℕ) : Type 0 where
 module _ (file list destination : List ℕ) where
   done_not : {r : Refused} {size : ℕ} {P : Type 0} → compact_call file list destination ≡ refuse_compact r list destination
       → (compact_call file list destination).answer ≡ Ok size → P
-  done_not q e =
-      absurd (let w = sym (ap (λ (c : CompactCall). c.answer) q) ∙ e in let z : ◌≡◌ {A = ℕ} 0 1 = cc in omega arith)
+  done_not q e = err_not_ok (sym (ap (λ (c : CompactCall). c.answer) q) ∙ e)
 
   module _ (size : ℕ) (e : (compact_call file list destination).answer ≡ Ok size) where
     by_room : (n : ℕ) → check_of file ≡ Ok n → length list ≡ n → (length destination ≡ length file) ⊎ (length destination ≢ length file)
@@ -152,8 +152,8 @@ front_compacted file list destination size e =
 
 refused_back : (a : Result Tally Refused) (size : ℕ) (r : Refused) → compact_answer a size ≡ Err r → a ≡ Err r
 unfolding compact_answer
-refused_back (Ok t) size r e = absurd (let z : ◌≡◌ {A = ℕ} 0 1 = cc in omega arith)
-refused_back (Err r) size r e = cc
+refused_back (Ok t) size r e = err_not_ok (sym e)
+refused_back (Err s) size r e = ap Err (err_same e)
 
 pub untouched : (file list destination : List ℕ) (r : Refused) → (compact_call file list destination).answer ≡ Err r
     → ((compact_call file list destination).list ≡ list) × ((compact_call file list destination).destination ≡ destination)
