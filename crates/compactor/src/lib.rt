@@ -10,11 +10,9 @@ ghost use Rattle.compactor.specs.Ready.{Ready};
 
 use crate::write::write_compacted;
 use checker::check;
-use compact::Written;
 use masker::fill;
 use netlist::record::Record;
-use netlist::refusal::Refusal;
-use rules::Checked;
+use netlist::refusal::{Refusal, Refused};
 
 pub mod survivors;
 pub mod write;
@@ -37,22 +35,18 @@ fn write_front(file: &[u8], list: &[u64], destination: &mut [u8]) -> usize
     write_compacted(file, list, &mut long[..n], destination)
 }
 
-pub fn compact(file: &[u8], list: &mut [u64], destination: &mut [u8]) -> Written
+pub fn compact(file: &[u8], list: &mut [u64], destination: &mut [u8]) -> Result<usize, Refused>
     ensures answer { result ≡ (compact_call file.now list.old destination.old).answer }
     ensures list { list.new ≡ (compact_call file.now list.old destination.old).list }
     ensures destination { destination.new ≡ (compact_call file.now list.old destination.old).destination }
 {
-    match check(file) {
-        Checked::Accepted(n) => {
-            if list.len() != n {
-                return Written::Refused(Refusal::BadList, 0);
-            }
-            if destination.len() != file.len() {
-                return Written::Refused(Refusal::BadDestination, 0);
-            }
-            fill(file, list);
-            Written::Done(write_front(file, list, destination))
-        }
-        Checked::Refused(r, i) => Written::Refused(r, i),
+    let n = check(file)?;
+    if list.len() != n {
+        return Err(Refusal::BadList.into());
     }
+    if destination.len() != file.len() {
+        return Err(Refusal::BadDestination.into());
+    }
+    fill(file, list);
+    Ok(write_front(file, list, destination))
 }

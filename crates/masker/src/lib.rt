@@ -12,12 +12,11 @@ ghost use Rattle.care.specs.Least.{output_seed, seed_of, masks_of};
 
 use crate::tally::tally_of;
 use bits::mask::low_mask;
-use care::{Tallied, Tally};
+use care::Tally;
 use checker::check;
 use netlist::layout::{role_at, width_at};
 use netlist::record::Role;
-use netlist::refusal::Refusal;
-use rules::Checked;
+use netlist::refusal::{Refusal, Refused};
 use sweep::raise;
 
 pub mod tally;
@@ -67,17 +66,13 @@ pub fn fill(file: &[u8], list: &mut [u64]) -> Tally
 }
 
 // The masks of a file's design in a list of n words, and their tally.
-pub fn masks(file: &[u8], list: &mut [u64]) -> Tallied
+pub fn masks(file: &[u8], list: &mut [u64]) -> Result<Tally, Refused>
     ensures answer { result ≡ (masks_call file.now list.old).answer }
     ensures list { list.new ≡ (masks_call file.now list.old).list }
 {
-    match check(file) {
-        Checked::Accepted(n) => {
-            if list.len() != n {
-                return Tallied::Refused(Refusal::BadList, 0);
-            }
-            Tallied::Done(fill(file, list))
-        }
-        Checked::Refused(r, i) => Tallied::Refused(r, i),
+    let n = check(file)?;
+    if list.len() != n {
+        return Err(Refusal::BadList.into());
     }
+    Ok(fill(file, list))
 }

@@ -14,58 +14,46 @@ use board::reset::reset;
 use board::values::work_out;
 use board::words::is_wide;
 use checker::check;
-use clock::Clocked;
-use netlist::refusal::Refusal;
-use rules::Checked;
+use netlist::refusal::{Refusal, Refused};
 
 // The lowest record whose word keeps a cycle from being run, if there is one.
-pub fn check_words(file: &[u8], board: &[u64]) -> Clocked
+pub fn check_words(file: &[u8], board: &[u64]) -> Result<(), Refused>
     requires { Lent file.now board.now }
     ensures { result ≡ words_answer (design_of file.now) board.now }
 {
-    let mut i: usize = 0;
-    while i < board.len() {
+    for i in 0..board.len() {
         if is_wide(file, board, i) {
-            return Clocked::Refused(Refusal::WideWord, i);
+            return Err(Refusal::WideWord.at(i));
         }
-        i += 1;
     }
-    Clocked::Done
+    Ok(())
 }
 
 // Runs one cycle of an accepted file on lists of n words, unless a word is refused.
-fn run(file: &[u8], board: &mut [u64], next: &mut [u64]) -> Clocked
+fn run(file: &[u8], board: &mut [u64], next: &mut [u64]) -> Result<(), Refused>
     requires { Lent file.now board.old × Lent file.now next.old }
     ensures answer { result ≡ words_answer (design_of file.now) board.old }
     ensures board { board.new ≡ leaves (is_ok result) (plain_values (design_of file.now) board.old) board.old }
     ensures next { next.new ≡ leaves (is_ok result) (plain_next (design_of file.now) board.old) next.old }
 {
-    match check_words(file, board) {
-        Clocked::Done => {
-            work_out(file, board);
-            load(file, board, next);
-            Clocked::Done
-        }
-        Clocked::Refused(r, i) => Clocked::Refused(r, i),
-    }
+    check_words(file, board)?;
+    work_out(file, board);
+    load(file, board, next);
+    Ok(())
 }
 
 // Writes the reset states of a file's design into a board list of n words.
 #[tactic(auto, using(crate::proofs::StartLaws::unfit_answer, crate::proofs::StartLaws::unfit_board, crate::proofs::StartLaws::fit_answer, crate::proofs::StartLaws::fit_board))]
-pub fn start(file: &[u8], board: &mut [u64]) -> Clocked
+pub fn start(file: &[u8], board: &mut [u64]) -> Result<(), Refused>
     ensures answer { result ≡ (start_call file.now board.old).answer }
     ensures board { board.new ≡ (start_call file.now board.old).board }
 {
-    match check(file) {
-        Checked::Accepted(n) => {
-            if board.len() != n {
-                return Clocked::Refused(Refusal::BadList, 0);
-            }
-            reset(file, board);
-            Clocked::Done
-        }
-        Checked::Refused(r, i) => Clocked::Refused(r, i),
+    let n = check(file)?;
+    if board.len() != n {
+        return Err(Refusal::BadList.into());
     }
+    reset(file, board);
+    Ok(())
 }
 
 // Whether a board list and the list that is filled from it both have n places.
@@ -76,18 +64,14 @@ pub fn both_have(board: usize, next: usize, n: usize) -> bool
 }
 
 // Runs one cycle of a file's design: the values in the board list, the next states in the next list.
-pub fn cycle(file: &[u8], board: &mut [u64], next: &mut [u64]) -> Clocked
+pub fn cycle(file: &[u8], board: &mut [u64], next: &mut [u64]) -> Result<(), Refused>
     ensures answer { result ≡ (cycle_call file.now board.old next.old).answer }
     ensures board { board.new ≡ (cycle_call file.now board.old next.old).board }
     ensures next { next.new ≡ (cycle_call file.now board.old next.old).next }
 {
-    match check(file) {
-        Checked::Accepted(n) => {
-            if !both_have(board.len(), next.len(), n) {
-                return Clocked::Refused(Refusal::BadList, 0);
-            }
-            run(file, board, next)
-        }
-        Checked::Refused(r, i) => Clocked::Refused(r, i),
+    let n = check(file)?;
+    if !both_have(board.len(), next.len(), n) {
+        return Err(Refusal::BadList.into());
     }
+    run(file, board, next)
 }

@@ -9,54 +9,45 @@ ghost use Rattle.trim.specs.CallBy.{list_answer, trim_by_call};
 ghost use Rattle.trim.specs.Trimmed.{trimmed_by};
 
 use crate::write::write_trimmed;
-use care::Tallied;
+use care::Tally;
 use checker::check;
 use fault::lowest_fault;
 use masker::tally::tally_of;
-use netlist::refusal::Refusal;
-use rules::Checked;
+use netlist::refusal::{Refusal, Refused};
 
 // The tally of a list of masks, or the lowest record whose mask breaks a width or a rule.
-fn judge(file: &[u8], list: &[u64]) -> Tallied
+fn judge(file: &[u8], list: &[u64]) -> Result<Tally, Refused>
     requires { Lent file.now list.now }
     ensures { result ≡ list_answer (design_of file.now) list.now }
 {
     let low = lowest_fault(file, list);
     if low < list.len() {
-        return Tallied::Refused(Refusal::BadMask, low);
+        return Err(Refusal::BadMask.at(low));
     }
-    Tallied::Done(tally_of(file, list))
+    Ok(tally_of(file, list))
 }
 
 // Writes the file that a list of masks cuts, unless the list is refused.
-fn write_by(file: &[u8], list: &[u64], destination: &mut [u8]) -> Tallied
+fn write_by(file: &[u8], list: &[u64], destination: &mut [u8]) -> Result<Tally, Refused>
     requires { Lent file.now list.now × (length destination.old ≡ length file.now) }
     ensures answer { result ≡ list_answer (design_of file.now) list.now }
     ensures destination { destination.new ≡ leaves (is_ok result) (trimmed_by file.now list.now) destination.old }
 {
-    match judge(file, list) {
-        Tallied::Done(tally) => {
-            write_trimmed(file, list, destination);
-            Tallied::Done(tally)
-        }
-        Tallied::Refused(r, i) => Tallied::Refused(r, i),
-    }
+    let tally = judge(file, list)?;
+    write_trimmed(file, list, destination);
+    Ok(tally)
 }
 
-pub fn trim_by(file: &[u8], list: &[u64], destination: &mut [u8]) -> Tallied
+pub fn trim_by(file: &[u8], list: &[u64], destination: &mut [u8]) -> Result<Tally, Refused>
     ensures answer { result ≡ (trim_by_call file.now list.now destination.old).answer }
     ensures destination { destination.new ≡ (trim_by_call file.now list.now destination.old).destination }
 {
-    match check(file) {
-        Checked::Accepted(n) => {
-            if list.len() != n {
-                return Tallied::Refused(Refusal::BadList, 0);
-            }
-            if destination.len() != file.len() {
-                return Tallied::Refused(Refusal::BadDestination, 0);
-            }
-            write_by(file, list, destination)
-        }
-        Checked::Refused(r, i) => Tallied::Refused(r, i),
+    let n = check(file)?;
+    if list.len() != n {
+        return Err(Refusal::BadList.into());
     }
+    if destination.len() != file.len() {
+        return Err(Refusal::BadDestination.into());
+    }
+    write_by(file, list, destination)
 }

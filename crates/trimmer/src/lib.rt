@@ -6,32 +6,27 @@ ghost use Rattle.std.specs.Prelude.{◌≡◌};
 ghost use Rattle.trim.specs.Call.{trim_call};
 
 use crate::write::write_trimmed;
-use care::Tallied;
+use care::Tally;
 use checker::check;
 use masker::fill;
-use netlist::refusal::Refusal;
-use rules::Checked;
+use netlist::refusal::{Refusal, Refused};
 
 pub mod by;
 pub mod write;
 
-pub fn trim(file: &[u8], list: &mut [u64], destination: &mut [u8]) -> Tallied
+pub fn trim(file: &[u8], list: &mut [u64], destination: &mut [u8]) -> Result<Tally, Refused>
     ensures answer { result ≡ (trim_call file.now list.old destination.old).answer }
     ensures list { list.new ≡ (trim_call file.now list.old destination.old).list }
     ensures destination { destination.new ≡ (trim_call file.now list.old destination.old).destination }
 {
-    match check(file) {
-        Checked::Accepted(n) => {
-            if list.len() != n {
-                return Tallied::Refused(Refusal::BadList, 0);
-            }
-            if destination.len() != file.len() {
-                return Tallied::Refused(Refusal::BadDestination, 0);
-            }
-            let tally = fill(file, list);
-            write_trimmed(file, list, destination);
-            Tallied::Done(tally)
-        }
-        Checked::Refused(r, i) => Tallied::Refused(r, i),
+    let n = check(file)?;
+    if list.len() != n {
+        return Err(Refusal::BadList.into());
     }
+    if destination.len() != file.len() {
+        return Err(Refusal::BadDestination.into());
+    }
+    let tally = fill(file, list);
+    write_trimmed(file, list, destination);
+    Ok(tally)
 }
