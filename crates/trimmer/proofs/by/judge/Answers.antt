@@ -2,7 +2,7 @@
 -- Assumes nothing.
 use mathlib.Core.Path.{sym, ap, ◌∙◌}
 use native.Mathlib.Omega.{arith}
-use Rattle.std.specs.Prelude.{Ok}
+use Rattle.std.specs.Prelude.{Ok, Err}
 use Rattle.netlist.specs.Layout.{design_of}
 use Rattle.trim.proofs.CallByLaws.{list_broken, list_done, list_fits}
 use Rattle.trimmer.proofs.by.judge.Goals as goal
@@ -11,7 +11,7 @@ pub returns-then-low-list : goal.returns-then-low-list
 unfolding design_of
 returns-then-low-list c = let a = c.args in
     let e = c.requires.size in
-    sym (list_broken (design_of a.file.now) a.list.now _ c.lowest_fault-low.ensures (omega arith))
+    ap Err c.at.ensures ∙ sym (list_broken (design_of a.file.now) a.list.now _ c.lowest_fault-low.ensures (omega arith))
 
 pub tally_of-requires : goal.tally_of-requires
 unfolding design_of
