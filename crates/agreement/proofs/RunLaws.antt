@@ -6,7 +6,6 @@ use Prim.Native.Nat.{ℕ, suc}
 use native.Mathlib.Omega.{arith}
 use lib.ListN.{length, drop}
 use Rattle.std.specs.Prelude.{Result, Ok, Err}
-use Rattle.netlist.specs.Refusals.{refused}
 use Rattle.netlist.specs.declared.refusal.Refused.{Refused}
 use Rattle.agreement.specs.Runs.{Machine, start, cycle, Step, started, cycled, Outcome, outcome, call_on, kinds_of, cycles_of}
 

@@ -15,7 +15,7 @@ use Rattle.endian.specs.Lists.{word_at}
 use Rattle.netlist.specs.declared.refusal.Refused.{Refused}
 use Rattle.netlist.specs.Kinds.{is_input, is_held}
 use Rattle.netlist.specs.Layout.{Design, design_of, role_at}
-use Rattle.netlist.specs.Refusals.{leaves, refused}
+use Rattle.netlist.specs.Refusals.{leaves}
 use Rattle.netlist.specs.declared.record.Role.{Role}
 use Rattle.netlist.specs.declared.record.Role.TheVariants.{Input, Register}
 use Rattle.netlist.proofs.PickedLaws.{Ranked, ranked, rank_lt}

@@ -33,7 +33,12 @@ fn change(file: &[u8], list: &mut [u64], board: &[u64], new: &mut [u64]) -> Resu
 }
 
 // Fills a list with the masks of a file's design, and another with the words of a board list that go over to the compacted file.
-pub fn change_over(file: &[u8], list: &mut [u64], board: &[u64], new: &mut [u64]) -> Result<(), Refused>
+pub fn change_over(
+    file: &[u8],
+    list: &mut [u64],
+    board: &[u64],
+    new: &mut [u64],
+) -> Result<(), Refused>
     ensures answer { result ≡ (change_over_call file.now list.old board.now new.old).answer }
     ensures list { list.new ≡ (change_over_call file.now list.old board.now new.old).list }
     ensures new { new.new ≡ (change_over_call file.now list.old board.now new.old).new }

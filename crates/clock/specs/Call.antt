@@ -1,6 +1,6 @@
 -- The operations `start` and `cycle`: their answers and each lent list afterwards, refused calls included.
 -- Assumes nothing.
-use Rattle.std.specs.Prelude.{Bool, true, false, cond, not, ◌&&◌, List, ℕ, ◌^◌, eqb, ltb, length, Result, Ok, Err, is_ok}
+use Rattle.std.specs.Prelude.{Bool, cond, not, ◌&&◌, List, ℕ, ◌^◌, eqb, ltb, length, Result, Ok, Err, is_ok}
 use Rattle.endian.specs.Lists.{word_at}
 use Rattle.netlist.specs.declared.refusal.Refused.{Refused}
 use Rattle.netlist.specs.Kinds.{is_held}

@@ -9,7 +9,6 @@ use Rattle.std.specs.Prelude.{Ok, Err}
 use Rattle.netlist.specs.declared.refusal.Refused.{Refused}
 use Rattle.netlist.specs.Refusals.{refused}
 use Rattle.netlist.specs.Layout.{design_of}
-use Rattle.netlist.specs.declared.refusal.Refusal.{Refusal}
 use Rattle.netlist.specs.declared.refusal.Refusal.TheVariants.{BadList, BadDestination}
 use Rattle.rules.specs.Check.{check_of}
 use Rattle.care.specs.Least.{masks_of}

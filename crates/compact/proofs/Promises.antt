@@ -13,9 +13,8 @@ use Rattle.endian.proofs.Stores.{stored_outside}
 use Rattle.netlist.specs.declared.refusal.Refused.{Refused}
 use Rattle.netlist.proofs.RefusalLaws.{err_not_ok, err_same}
 use Rattle.netlist.specs.Layout.{Design, design_of, byte_at, record_at, record_start}
-use Rattle.netlist.specs.Refusals.{leaves, refused}
+use Rattle.netlist.specs.Refusals.{leaves}
 use Rattle.netlist.specs.declared.record.Kind.TheVariants.{Constant}
-use Rattle.netlist.specs.declared.refusal.Refusal.{Refusal}
 use Rattle.rules.specs.Check.{check_of}
 use Rattle.rules.proofs.Acceptance.{accepted}
 use Rattle.care.specs.declared.Tally.{Tally}

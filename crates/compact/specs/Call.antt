@@ -1,9 +1,9 @@
 -- The operation `compact`: its answer and each lent list afterwards, refused calls included. The sentences are those of #107.
 -- Assumes nothing.
-use Rattle.std.specs.Prelude.{Bool, true, false, List, ℕ, length, Result, Ok, Err, is_ok}
+use Rattle.std.specs.Prelude.{List, ℕ, length, Result, Ok, Err, is_ok}
 use Rattle.std.proofs.lemmas.List.Edits.{sets}
 use Rattle.netlist.specs.declared.refusal.Refused.{Refused}
-use Rattle.netlist.specs.Refusals.{leaves, refused}
+use Rattle.netlist.specs.Refusals.{leaves}
 use Rattle.care.specs.declared.Tally.{Tally}
 use Rattle.trim.specs.Call.{TrimCall, trim_call}
 use Rattle.compact.specs.Part.{compacted}

@@ -1,6 +1,6 @@
 -- What the functions below the desktop's ask of each other: lists of words in place of buffers of bytes. No public promise mentions it.
 -- Assumes nothing.
-use Rattle.std.specs.Prelude.{◌≡◌, ℕ, ◌*◌, ◌≤◌, Result, Ok, Err}
+use Rattle.std.specs.Prelude.{◌≡◌, ℕ, ◌*◌, ◌≤◌, Result, OnOk}
 use Rattle.netlist.specs.declared.refusal.Refused.{Refused}
 use Rattle.netlist.specs.Limits.{max_count}
 use Rattle.care.specs.declared.Tally.{Tally}
@@ -12,5 +12,4 @@ pub record Matches (words bytes : ℕ) : Type 0 where
 
 -- Where the call is accepted, the buffer has 8 bytes for each word of the list.
 abbrev pub Room : Result Tally Refused → ℕ → ℕ → Type 0
-Room (Ok t) words bytes = bytes ≡ 8 * words
-Room (Err r) words bytes = Unit {0}
+Room answer words bytes = OnOk answer (bytes ≡ 8 * words)

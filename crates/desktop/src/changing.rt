@@ -4,7 +4,7 @@ ghost use Rattle.std.specs.Prelude.{◌≡◌};
 ghost use Rattle.changeover.specs.Call.{change_over_call};
 ghost use Rattle.answer.specs.Answer.{clocked_answer};
 
-use answer::of_clocked;
+use answer::number;
 use changer::change_over;
 
 // Writes the masks of a file's design, and the words of a board list that go over to the compacted file: 0, or the refusal and its record.
@@ -19,5 +19,5 @@ pub extern "C" fn pcn_change_over(
     ensures masks { masks.new ≡ (change_over_call file.now masks.old board.now new.old).list }
     ensures new { new.new ≡ (change_over_call file.now masks.old board.now new.old).new }
 {
-    of_clocked(change_over(file, masks, board, new))
+    number(change_over(file, masks, board, new))
 }

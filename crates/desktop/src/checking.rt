@@ -4,7 +4,7 @@ ghost use Rattle.std.specs.Prelude.{◌≡◌};
 ghost use Rattle.rules.specs.Check.{check_of};
 ghost use Rattle.answer.specs.Answer.{check_answer};
 
-use answer::of_checked;
+use answer::number;
 use checker::check;
 
 // Checks a file: the count of its records, or the refusal and its record.
@@ -12,5 +12,5 @@ use checker::check;
 pub extern "C" fn pcn_check(file: &[u8]) -> u64
     ensures { result ≡ check_answer (check_of file.now) }
 {
-    of_checked(check(file))
+    number(check(file))
 }

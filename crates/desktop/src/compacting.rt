@@ -4,7 +4,7 @@ ghost use Rattle.std.specs.Prelude.{◌≡◌};
 ghost use Rattle.compact.specs.Call.{compact_call};
 ghost use Rattle.answer.specs.Answer.{written_answer};
 
-use answer::of_written;
+use answer::number;
 use compactor::compact;
 
 // Writes the masks of a file's design and its compacted file: the new length, or the refusal and its record.
@@ -14,5 +14,5 @@ pub extern "C" fn pcn_compact(file: &[u8], masks: &mut [u64], destination: &mut 
     ensures masks { masks.new ≡ (compact_call file.now masks.old destination.old).list }
     ensures destination { destination.new ≡ (compact_call file.now masks.old destination.old).destination }
 {
-    of_written(compact(file, masks, destination))
+    number(compact(file, masks, destination))
 }

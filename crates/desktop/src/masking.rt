@@ -6,7 +6,7 @@ ghost use Rattle.desktop.specs.Buffers.{masks_buffer};
 ghost use Rattle.desktop.specs.Words.{Matches};
 
 use crate::words::{LONG_LIST, SHORT_LIST, word_count, write_accepted};
-use answer::of_tallied;
+use answer::number;
 use masker::masks;
 
 // The same as `pcn_masks`, by way of a list of words.
@@ -17,7 +17,7 @@ fn masks_in_words(words: &mut [u64], file: &[u8], buffer: &mut [u8]) -> u64
 {
     let answer = masks(file, words);
     write_accepted(answer, words, buffer);
-    of_tallied(answer)
+    number(answer)
 }
 
 // Fills a buffer with the masks of a file's design, 8 bytes each: their tally, or the refusal and its record.

@@ -6,7 +6,7 @@ ghost use Rattle.desktop.specs.Buffers.{trim_buffers};
 ghost use Rattle.desktop.specs.Words.{Matches};
 
 use crate::words::{LONG_LIST, SHORT_LIST, word_count, write_accepted};
-use answer::of_tallied;
+use answer::number;
 use trimmer::trim;
 
 // The same as `pcn_trim`, by way of a list of words.
@@ -18,7 +18,7 @@ fn trim_in_words(words: &mut [u64], file: &[u8], masks: &mut [u8], destination: 
 {
     let answer = trim(file, words, destination);
     write_accepted(answer, words, masks);
-    of_tallied(answer)
+    number(answer)
 }
 
 // Writes the masks of a file's design, 8 bytes each, and the trimmed file: the tally, or the refusal and its record.

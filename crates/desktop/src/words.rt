@@ -6,9 +6,10 @@ ghost use Rattle.netlist.specs.Limits.{max_count};
 ghost use Rattle.netlist.specs.Refusals.{leaves};
 ghost use Rattle.desktop.specs.Words.{Matches, Room};
 
-use care::Tallied;
+use care::Tally;
 use endian::write_words;
 use netlist::record::Record;
+use netlist::refusal::Refused;
 
 // Lists of so few words are worked on in an array of this length, which takes less time to clear than one for the longest list.
 pub const SHORT_LIST: usize = 256;
@@ -32,12 +33,11 @@ pub fn word_count(bytes: usize) -> usize
 }
 
 // Writes the words of an accepted call as bytes.
-pub fn write_accepted(answer: Tallied, words: &[u64], buffer: &mut [u8])
+pub fn write_accepted(answer: Result<Tally, Refused>, words: &[u64], buffer: &mut [u8])
     requires { Room answer (length words.now) (length buffer.old) }
     ensures { buffer.new ≡ leaves (is_ok answer) (word_bytes words.now) buffer.old }
 {
-    match answer {
-        Tallied::Done(_) => write_words(buffer, words),
-        Tallied::Refused(_, _) => {}
+    if answer.is_ok() {
+        write_words(buffer, words);
     }
 }

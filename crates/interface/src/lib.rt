@@ -7,7 +7,7 @@ ghost use Rattle.clock.specs.Call.{start_call, cycle_call};
 ghost use Rattle.trim.specs.CallBy.{trim_by_call};
 ghost use Rattle.answer.specs.Answer.{clocked_answer, tallied_answer};
 
-use answer::{of_clocked, of_tallied};
+use answer::number;
 use simulator::{cycle, start};
 use trimmer::by::trim_by;
 
@@ -17,7 +17,7 @@ pub extern "C" fn pcn_start(file: &[u8], board: &mut [u64]) -> u64
     ensures answer { result ≡ clocked_answer (start_call file.now board.old).answer }
     ensures board { board.new ≡ (start_call file.now board.old).board }
 {
-    of_clocked(start(file, board))
+    number(start(file, board))
 }
 
 // Runs one cycle of a file's design: the values in the board list, the next states in the next list.
@@ -27,7 +27,7 @@ pub extern "C" fn pcn_cycle(file: &[u8], board: &mut [u64], next: &mut [u64]) ->
     ensures board { board.new ≡ (cycle_call file.now board.old next.old).board }
     ensures next { next.new ≡ (cycle_call file.now board.old next.old).next }
 {
-    of_clocked(cycle(file, board, next))
+    number(cycle(file, board, next))
 }
 
 // Writes the file that a given list of masks cuts: the list's tally, or the refusal and its record.
@@ -36,5 +36,5 @@ pub extern "C" fn pcn_trim_by(file: &[u8], masks: &[u64], destination: &mut [u8]
     ensures answer { result ≡ tallied_answer (trim_by_call file.now masks.now destination.old).answer }
     ensures destination { destination.new ≡ (trim_by_call file.now masks.now destination.old).destination }
 {
-    of_tallied(trim_by(file, masks, destination))
+    number(trim_by(file, masks, destination))
 }

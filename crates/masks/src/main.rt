@@ -11,8 +11,7 @@ use checker::check;
 use masker::fill;
 use netlist::layout::{HEADER, RECORD, width_at};
 use netlist::record::Record;
-use netlist::refusal::Refusal;
-use rules::Checked;
+use netlist::refusal::Refused;
 use std::io;
 use std::io::Read;
 
@@ -20,8 +19,12 @@ use std::io::Read;
 const INPUT: usize = HEADER + RECORD * Record::MAX_COUNT + 1;
 
 // Each function that prints ends at the first write that fails, since a line behind a gap could show the mask of another record.
-fn print_refusal(rt: &impl Print, refusal: Refusal, record: usize) -> io::Result<()> {
-    println!(rt; "refused {} record {record}", refusal.number())
+fn print_refusal(rt: &impl Print, refused: Refused) -> io::Result<()> {
+    println!(rt;
+        "refused {} record {}",
+        refused.refusal.number(),
+        refused.at
+    )
 }
 
 fn print_tally(rt: &impl Print, n: usize, tally: Tally) -> io::Result<()> {
@@ -36,10 +39,8 @@ fn print_mask(rt: &impl Print, i: usize, width: u64, mask: u64) -> io::Result<()
 fn print_masks(rt: &impl Print, file: &[u8], list: &[u64]) -> io::Result<()>
     requires { Lent file.now list.now }
 {
-    let mut i: usize = 0;
-    while i < list.len() {
+    for i in 0..list.len() {
         print_mask(rt, i, width_at(file, i), list[i])?;
-        i += 1;
     }
     Ok(())
 }
@@ -56,8 +57,8 @@ fn print_accepted(rt: &impl Print, file: &[u8], n: usize) -> io::Result<()>
 
 fn report(rt: &impl Print, file: &[u8]) -> io::Result<()> {
     match check(file) {
-        Checked::Accepted(n) => print_accepted(rt, file, n),
-        Checked::Refused(r, i) => print_refusal(rt, r, i),
+        Ok(n) => print_accepted(rt, file, n),
+        Err(refused) => print_refusal(rt, refused),
     }
 }
 

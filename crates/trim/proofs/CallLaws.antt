@@ -10,7 +10,6 @@ use Rattle.std.specs.Prelude.{Ok, Err, is_ok}
 use Rattle.netlist.specs.declared.refusal.Refused.{Refused}
 use Rattle.netlist.specs.Layout.{design_of}
 use Rattle.netlist.specs.Refusals.{leaves, refused}
-use Rattle.netlist.specs.declared.refusal.Refusal.{Refusal}
 use Rattle.netlist.specs.declared.refusal.Refusal.TheVariants.{BadList, BadDestination}
 use Rattle.rules.specs.Check.{check_of}
 use Rattle.care.specs.Call.{MasksCall, refuse, fill_masks, masks_call}

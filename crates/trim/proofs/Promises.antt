@@ -7,7 +7,7 @@ use lib.ListN.{length}
 use Rattle.std.specs.Prelude.{Result, Ok, Err, is_ok}
 use Rattle.netlist.specs.declared.refusal.Refused.{Refused}
 use Rattle.netlist.specs.Layout.{design_of, byte_at, count_of, keep_at, record_at}
-use Rattle.netlist.specs.Refusals.{leaves, refused}
+use Rattle.netlist.specs.Refusals.{leaves}
 use Rattle.rules.specs.Check.{check_of}
 use Rattle.rules.specs.Sound.{SameDesign}
 use Rattle.signal.specs.Asks.{demand_of}

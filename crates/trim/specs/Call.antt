@@ -1,6 +1,6 @@
 -- The operation `trim`: its answer and each lent list afterwards, refused calls included.
 -- Assumes nothing.
-use Rattle.std.specs.Prelude.{Bool, true, false, cond, List, ℕ, eqb, length, Result, Ok, Err, is_ok}
+use Rattle.std.specs.Prelude.{Bool, cond, List, ℕ, eqb, length, Result, Ok, Err, is_ok}
 use Rattle.netlist.specs.declared.refusal.Refused.{Refused}
 use Rattle.netlist.specs.Refusals.{leaves, refused}
 use Rattle.netlist.specs.declared.refusal.Refusal.TheVariants.{BadDestination}

@@ -1,10 +1,9 @@
 -- `checker::check` meets its contract: a header that passed leaves a file as long as its count asks for, and then the records decide.
 -- Assumes nothing.
-use Rattle.std.proofs.Common.{◌≡◌, ℕ, List, Result, Ok, Err, sym, ap, ◌∙◌, le_of_eq}
+use Rattle.std.proofs.Common.{◌≡◌, ℕ, List, Result, Err, sym, ap, ◌∙◌, le_of_eq}
 use Rattle.std.proofs.lemmas.Result.{err_from_is_err_and}
 use Rattle.netlist.specs.Layout.{count_of, record_start}
 use Rattle.netlist.specs.declared.refusal.Refusal.{Refusal}
-use Rattle.netlist.specs.declared.refusal.Refused.{Refused}
 use Rattle.rules.specs.Check.{first_broken, check_of, check_from, refuse_at, header_rules}
 use Rattle.rules.proofs.CheckLaws.{pass_kept}
 use Rattle.checker.proofs.check.Goals as goal

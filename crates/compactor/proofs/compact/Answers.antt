@@ -7,7 +7,6 @@ use native.Mathlib.Omega.{arith}
 use lib.ListN.{length}
 use lib.Seq.{sets}
 use Rattle.std.specs.Prelude.{Ok, Err}
-use Rattle.netlist.specs.declared.refusal.Refused.{Refused}
 use Rattle.netlist.proofs.RefusalLaws.{handed_on}
 use Rattle.rules.proofs.Acceptance.{accepted, lent, with_count}
 use Rattle.care.proofs.LeastMasks.{masks_length}

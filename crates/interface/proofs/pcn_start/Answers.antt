@@ -1,9 +1,9 @@
 -- `interface::pcn_start` meets its contract: the operation's answer fits into its number, and the lists are those that the operation leaves.
 -- Assumes nothing.
 use mathlib.Core.Path.{sym, subst}
-use Rattle.answer.specs.Fits.{ClockedFits}
+use Rattle.answer.specs.Fits.{RefusalFits}
 use Rattle.answer.proofs.Fitting.{start_fits}
 use Rattle.interface.proofs.pcn_start.Goals as goal
 
-pub of_clocked-requires : goal.of_clocked-requires
-of_clocked-requires c = subst ClockedFits (sym c.start.ensures.answer) (start_fits _ _)
+pub number-requires : goal.number-requires
+number-requires c = subst RefusalFits (sym c.start.ensures.answer) (start_fits _ _)

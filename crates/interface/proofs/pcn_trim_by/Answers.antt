@@ -5,5 +5,5 @@ use Rattle.answer.proofs.Fitting.{trim_by_fits}
 use Rattle.answer.specs.Fits.{TalliedFits}
 use Rattle.interface.proofs.pcn_trim_by.Goals as goal
 
-pub of_tallied-requires : goal.of_tallied-requires
-of_tallied-requires c = subst TalliedFits (sym c.trim_by.ensures.answer) (trim_by_fits _ _ _)
+pub number-requires : goal.number-requires
+number-requires c = subst TalliedFits (sym c.trim_by.ensures.answer) (trim_by_fits _ _ _)

@@ -1,6 +1,6 @@
 -- `simulator::start` meets its contract: the file is refused, the list is refused, or the reset states are written.
 -- Assumes nothing.
-use Rattle.std.proofs.Common.{◌≡◌, Ok, length, eqb, sym, ◌∙◌, arith}
+use Rattle.std.proofs.Common.{Ok, length, eqb, sym, ◌∙◌, arith}
 use Rattle.netlist.proofs.RefusalLaws.{handed_on}
 use Rattle.rules.proofs.Acceptance.{accepted, lent}
 use Rattle.clock.proofs.CallLaws.{answer_refused, start_ends}

@@ -2,7 +2,6 @@
 -- Assumes nothing.
 use mathlib.Core.Path.{sym, ap, ◌∙◌}
 use Rattle.std.specs.Prelude.{Ok, Err}
-use Rattle.netlist.specs.declared.refusal.Refused.{Refused}
 use Rattle.netlist.proofs.RefusalLaws.{handed_on}
 use Rattle.rules.proofs.Acceptance.{accepted, lent}
 use Rattle.care.proofs.LeastMasks.{masks_length}

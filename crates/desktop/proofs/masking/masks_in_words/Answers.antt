@@ -20,8 +20,8 @@ write_accepted-requires c = let args = c.args in
     let masks = c.masks-answer.ensures in
     rw (masks.answer, masks.list) (masks_match args.file.now args.buffer.now args.words.now c.requires).room
 
-pub of_tallied-requires : goal.of_tallied-requires
-of_tallied-requires c = subst TalliedFits (sym c.masks-answer.ensures.answer) (masks_fits _ _)
+pub number-requires : goal.number-requires
+number-requires c = subst TalliedFits (sym c.masks-answer.ensures.answer) (masks_fits _ _)
 
 pub returns : goal.returns
 returns c = let args = c.args in
@@ -29,7 +29,7 @@ returns c = let args = c.args in
     let buffer = args.buffer.now in
     let same = (masks_match args.file.now buffer args.words.now c.requires).same in
     record {
-      answer = c.of_tallied.ensures ∙ ap tallied_answer (masks.answer ∙ sym (ap (λ (m : MasksCall). m.answer) same));
+      answer = c.number.ensures ∙ ap tallied_answer (masks.answer ∙ sym (ap (λ (m : MasksCall). m.answer) same));
       masks =
           c.write_accepted.ensures
           ∙ ap₂ (λ (a : Result Tally Refused) (l : List ℕ). leaves (is_ok a) (word_bytes l) buffer) masks.answer masks.list

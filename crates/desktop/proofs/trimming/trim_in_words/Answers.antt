@@ -20,8 +20,8 @@ write_accepted-requires c = let args = c.args in
     let trim = c.trim-answer.ensures in
     rw (trim.answer, trim.list) (trim_room args.file.now args.masks.now args.words.now c.requires args.destination.now)
 
-pub of_tallied-requires : goal.of_tallied-requires
-of_tallied-requires c = subst TalliedFits (sym c.trim-answer.ensures.answer) (trim_fits _ _ _)
+pub number-requires : goal.number-requires
+number-requires c = subst TalliedFits (sym c.trim-answer.ensures.answer) (trim_fits _ _ _)
 
 pub returns : goal.returns
 returns c = let args = c.args in
@@ -29,7 +29,7 @@ returns c = let args = c.args in
     let masks = args.masks.now in
     let same = same_trim args.file.now masks args.words.now c.requires args.destination.now in
     record {
-      answer = c.of_tallied.ensures ∙ ap tallied_answer (trim.answer ∙ sym (ap (λ (t : TrimCall). t.answer) same));
+      answer = c.number.ensures ∙ ap tallied_answer (trim.answer ∙ sym (ap (λ (t : TrimCall). t.answer) same));
       masks =
           c.write_accepted.ensures
           ∙ ap₂ (λ (a : Result Tally Refused) (l : List ℕ). leaves (is_ok a) (word_bytes l) masks) trim.answer trim.list
