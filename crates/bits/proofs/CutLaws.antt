@@ -1,4 +1,4 @@
--- What `cut_to` gives: below 64 bits a cut by a low mask, from there on the whole word, and of a sum or difference that wrapped at 64 bits the same as of the sum or difference.
+-- What `cut_to` gives: a cut by a low mask below 64 bits, the whole word from there on, and of a sum or difference that wrapped the cut of it unwrapped.
 -- Assumes nothing.
 use Rattle.std.proofs.Common.{◌≡◌, ℕ, ◌+◌, ◌-◌, ◌%◌, ◌^◌, ◌<◌, ◌≤◌, sym, ap, ◌∙◌, lt_of_lt_of_le, mod-eq_of_lt, arith, pow_mono}
 use native.Mathlib.Nat.{mod-add-mod, add-mod_right}

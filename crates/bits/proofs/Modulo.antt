@@ -1,7 +1,7 @@
--- Arithmetic modulo a power of two: cuts, sums, differences, products, and words moved out at either end.
+-- Arithmetic modulo a power of two: cuts, sums, differences, and words moved out at either end.
 -- Assumes nothing.
-use Rattle.std.proofs.Common.{◌≡◌, ℕ, ◌+◌, ◌-◌, ◌*◌, ◌/◌, ◌%◌, ◌^◌, ◌<◌, ◌≤◌, sym, ap, ◌∙◌, lt_of_lt_of_le, add_assoc, mod-lt, mul_assoc, mul_comm, add-mul, add_comm, lt_of_not-le, div-add-mod', arith, pow_pos, pow_mono, pow-add}
-use native.Mathlib.Nat.{le_dest, add-mod-mod, mod-add-mod, mul-add-mod_self_right, add-mod_right, div-eq_of_lt, mul-mod_left}
+use Rattle.std.proofs.Common.{◌≡◌, ℕ, ◌+◌, ◌-◌, ◌*◌, ◌/◌, ◌%◌, ◌^◌, ◌<◌, ◌≤◌, sym, ap, ◌∙◌, lt_of_lt_of_le, add_assoc, mod-lt, mul_assoc, add_comm, lt_of_not-le, arith, pow_pos, pow_mono, pow-add}
+use native.Mathlib.Nat.{le_dest, add-mod-mod, mod-add-mod, add-mod_right, div-eq_of_lt, mul-mod_left}
 use lib.Pow.{mod-mod-pow, split}
 use Rattle.bits.specs.Words.{sum_at, difference_at}
 
@@ -15,19 +15,6 @@ cut_cut x {k} {w} h =
 pub sum_cut : (x y : ℕ) {w : ℕ} → w ≤ 64 → sum_at w (x % 2 ^ 64) y ≡ (x + y) % 2 ^ w
 sum_cut x y {w} h =
     sym (mod-add-mod (x % 2 ^ 64) (2 ^ w) y) ∙ ap (λ (n : ℕ). (n + y) % 2 ^ w) (cut_cut x h) ∙ mod-add-mod x (2 ^ w) y
-
--- a product depends only on its first factor modulo m
-pub mul_mod_l : (x y m : ℕ) → x % m * y % m ≡ x * y % m
-mul_mod_l x y m =
-    sym (mul-add-mod_self_right (x / m * y) m (x % m * y))
-    ∙ ap (λ (n : ℕ). (n + x % m * y) % m) (mul_assoc (x / m) y m ∙ ap (λ (n : ℕ). x / m * n) (mul_comm y m) ∙ sym (mul_assoc (x / m) m y))
-    ∙ ap (λ (n : ℕ). n % m) (sym (add-mul (x / m * m) (x % m) y) ∙ ap (λ (n : ℕ). n * y) (div-add-mod' x m))
-
--- and only on both factors modulo m
-pub mul_mod : (x y m : ℕ) → x * y % m ≡ x % m * (y % m) % m
-mul_mod x y m =
-    sym (mul_mod_l x y m) ∙ ap (λ (n : ℕ). n % m) (mul_comm (x % m) y)
-    ∙ sym (mul_mod_l y (x % m) m) ∙ ap (λ (n : ℕ). n % m) (mul_comm (y % m) (x % m))
 
 -- what y takes off x, y added to it gives back
 pub difference_add : (w x y : ℕ) → (difference_at w x y + y) % 2 ^ w ≡ x % 2 ^ w

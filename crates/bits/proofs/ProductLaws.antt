@@ -4,7 +4,8 @@ use Rattle.std.proofs.Common.{◌≡◌, ℕ, zero, suc, ◌+◌, ◌*◌, ◌/�
 use native.Mathlib.Nat.{add-mod-mod, mod-add-mod, zero-mod, max-eq_left, max-eq_right, min-eq_left, min-eq_right}
 use lib.Pow.{mod-pow-add}
 use Rattle.std.proofs.lemmas.Bool.{cases_lt}
-use Rattle.bits.proofs.Modulo.{mul_mod_l, cut_short}
+use Rattle.std.proofs.lemmas.Nat.{mul-mod_first}
+use Rattle.bits.proofs.Modulo.{cut_short}
 
 -- the larger of two factors, times the smaller one
 factors : (x y : ℕ) → max x y * min x y ≡ x * y
@@ -28,7 +29,7 @@ multiples a twice thrice m h e f (suc (suc (suc (suc d)))) g = absurd (omega ari
 product_step : (a b k j m : ℕ) → (a * (b % 2 ^ k) % m + a * (b / 2 ^ k % 2 ^ j) % m * 2 ^ k % m) % m ≡ a * (b % 2 ^ (k + j)) % m
 product_step a b k j m =
     mod-add-mod low m (a * d % m * 2 ^ k % m)
-    ∙ ap (λ (n : ℕ). (low + n) % m) (mul_mod_l (a * d) (2 ^ k) m)
+    ∙ ap (λ (n : ℕ). (low + n) % m) (mul-mod_first (a * d) (2 ^ k) m)
     ∙ add-mod-mod low (a * d * 2 ^ k) m
     ∙ ap (λ (n : ℕ). n % m) same
   where
