@@ -36,6 +36,7 @@ pub fn write_words(d: &mut [u8], words: &[u64])
     requires { length d.old ≡ 8 * length words.now }
     ensures { d.new ≡ word_bytes words.now }
 {
+    // Of the parts that `chunks_exact_mut` lends, only the length is known once they are back.
     for (i, word) in words.iter().enumerate() {
         write_64(&mut d[8 * i..], *word);
     }
