@@ -6,7 +6,8 @@ use Rattle.bits.specs.Masks.{Agree}
 use Rattle.bits.specs.Words.{low_mask, sum_at, difference_at, product_at, bit_length}
 use Rattle.bits.proofs.Agreement.{agree_low, low_agree, agree_within}
 use Rattle.bits.proofs.Counts.{length_in_holds}
-use Rattle.bits.proofs.Modulo.{cut_cut, mul_mod, difference_add, difference_only}
+use Rattle.std.proofs.lemmas.Nat.{mul-mod}
+use Rattle.bits.proofs.Modulo.{cut_cut, difference_add, difference_only}
 use Rattle.bits.proofs.Order.{within_low}
 use Rattle.bits.proofs.Shifts.{length_le}
 
@@ -42,7 +43,7 @@ sum_lows : (x y h w : ℕ) → h ≤ w → sum_at w x y % 2 ^ h ≡ sum_at h (x 
 sum_lows x y h w l = cut_cut (x + y) l ∙ add-mod x y (2 ^ h)
 
 product_lows : (x y h w : ℕ) → h ≤ w → product_at w x y % 2 ^ h ≡ product_at h (x % 2 ^ h) (y % 2 ^ h)
-product_lows x y h w l = cut_cut (x * y) l ∙ mul_mod x y (2 ^ h)
+product_lows x y h w l = cut_cut (x * y) l ∙ mul-mod x y (2 ^ h)
 
 -- the difference at width w, with y added, is x at every width up to w, so it is the difference there too
 difference_lows : (x y h w : ℕ) → h ≤ w → difference_at w x y % 2 ^ h ≡ difference_at h (x % 2 ^ h) (y % 2 ^ h)

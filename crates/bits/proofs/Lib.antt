@@ -3,6 +3,7 @@
 pub mod Counts
 pub mod CutLaws
 pub mod Modulo
+pub mod ProductLaws
 pub mod Digits
 pub mod Order
 pub mod Shifts

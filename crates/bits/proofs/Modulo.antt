@@ -1,8 +1,8 @@
--- Arithmetic modulo a power of two: cuts, sums, differences, products, and words moved out at either end.
+-- Arithmetic modulo a power of two: cuts, sums, differences, and words moved out at either end.
 -- Assumes nothing.
-use Rattle.std.proofs.Common.{◌≡◌, ℕ, zero, suc, ◌+◌, ◌-◌, ◌*◌, ◌/◌, ◌%◌, ◌^◌, ◌<◌, ◌≤◌, Bool, true, false, cond, [], ◌∷◌, get_or, sym, refl, ap, ◌∙◌, lt_of_lt_of_le, add_assoc, mod-lt, mod-eq_of_lt, mul_assoc, mul_comm, add-mul, add_comm, lt_of_not-le, div-add-mod', mul-add, arith, pow_pos, pow_mono, pow-add}
-use native.Mathlib.Nat.{le_dest, add-mod-mod, mod-add-mod, mul-add-mod_self_right, add-mod_right, div-eq_of_lt, mul-mod_left, zero-mod}
-use lib.Pow.{mod-mod-pow, mod-pow-add, split}
+use Rattle.std.proofs.Common.{◌≡◌, ℕ, ◌+◌, ◌-◌, ◌*◌, ◌/◌, ◌%◌, ◌^◌, ◌<◌, ◌≤◌, sym, ap, ◌∙◌, lt_of_lt_of_le, add_assoc, mod-lt, mul_assoc, add_comm, lt_of_not-le, arith, pow_pos, pow_mono, pow-add}
+use native.Mathlib.Nat.{le_dest, add-mod-mod, mod-add-mod, add-mod_right, div-eq_of_lt, mul-mod_left}
+use lib.Pow.{mod-mod-pow, split}
 use Rattle.bits.specs.Words.{sum_at, difference_at}
 
 -- the longer cut is as good as none
@@ -15,19 +15,6 @@ cut_cut x {k} {w} h =
 pub sum_cut : (x y : ℕ) {w : ℕ} → w ≤ 64 → sum_at w (x % 2 ^ 64) y ≡ (x + y) % 2 ^ w
 sum_cut x y {w} h =
     sym (mod-add-mod (x % 2 ^ 64) (2 ^ w) y) ∙ ap (λ (n : ℕ). (n + y) % 2 ^ w) (cut_cut x h) ∙ mod-add-mod x (2 ^ w) y
-
--- a product depends only on its first factor modulo m
-pub mul_mod_l : (x y m : ℕ) → x % m * y % m ≡ x * y % m
-mul_mod_l x y m =
-    sym (mul-add-mod_self_right (x / m * y) m (x % m * y))
-    ∙ ap (λ (n : ℕ). (n + x % m * y) % m) (mul_assoc (x / m) y m ∙ ap (λ (n : ℕ). x / m * n) (mul_comm y m) ∙ sym (mul_assoc (x / m) m y))
-    ∙ ap (λ (n : ℕ). n % m) (sym (add-mul (x / m * m) (x % m) y) ∙ ap (λ (n : ℕ). n * y) (div-add-mod' x m))
-
--- and only on both factors modulo m
-pub mul_mod : (x y m : ℕ) → x * y % m ≡ x % m * (y % m) % m
-mul_mod x y m =
-    sym (mul_mod_l x y m) ∙ ap (λ (n : ℕ). n % m) (mul_comm (x % m) y)
-    ∙ sym (mul_mod_l y (x % m) m) ∙ ap (λ (n : ℕ). n % m) (mul_comm (y % m) (x % m))
 
 -- what y takes off x, y added to it gives back
 pub difference_add : (w x y : ℕ) → (difference_at w x y + y) % 2 ^ w ≡ x % 2 ^ w
@@ -72,42 +59,3 @@ shift_in x k h g = lt_of_not-le (λ l. let e = shift_out x k h l in omega arith)
 -- and where nothing is left, its k low bits are all of it
 pub cut_short : (x k : ℕ) → x / 2 ^ k ≡ 0 → x % 2 ^ k ≡ x
 cut_short x k e = let s = ap (λ (n : ℕ). n * 2 ^ k + x % 2 ^ k) (sym e) ∙ split x k in omega arith
-
--- the larger of two factors, times the smaller one
-pub factors : (t : Bool) (x y : ℕ) → cond t y x * cond t x y ≡ x * y
-factors true x y = mul_comm y x
-factors false x y = refl
-
--- the multiples of a word by 0, 1, 2 and 3, from sums that wrap
-pub multiples : (a twice thrice m : ℕ) → a < m → twice ≡ (a + a) % m → thrice ≡ (twice + a) % m → (d : ℕ) → d < 4
-    → get_or (0 ∷ a ∷ twice ∷ thrice ∷ []) d 0 ≡ a * d % m
-multiples a twice thrice m h e f zero g = sym (zero-mod m) ∙ ap (λ (n : ℕ). n % m) (omega arith)
-multiples a twice thrice m h e f (suc zero) g = sym (mod-eq_of_lt h) ∙ ap (λ (n : ℕ). n % m) (omega arith)
-multiples a twice thrice m h e f (suc (suc zero)) g = e ∙ ap (λ (n : ℕ). n % m) (omega arith)
-multiples a twice thrice m h e f (suc (suc (suc zero))) g =
-    f ∙ ap (λ (n : ℕ). (n + a) % m) e ∙ mod-add-mod (a + a) m a ∙ ap (λ (n : ℕ). n % m) (omega arith)
-multiples a twice thrice m h e f (suc (suc (suc (suc d)))) g = absurd (omega arith)
-
--- one step of the product: what the k low bits of b called for, and the multiple that the next j call for, moved up to their place
-pub product_step : (a b k j m : ℕ) → (a * (b % 2 ^ k) % m + a * (b / 2 ^ k % 2 ^ j) % m * 2 ^ k % m) % m ≡ a * (b % 2 ^ (k + j)) % m
-product_step a b k j m =
-    mod-add-mod low m (a * d % m * 2 ^ k % m)
-    ∙ ap (λ (n : ℕ). (low + n) % m) (mul_mod_l (a * d) (2 ^ k) m)
-    ∙ add-mod-mod low (a * d * 2 ^ k) m
-    ∙ ap (λ (n : ℕ). n % m) same
-  where
-    d : ℕ
-    d = b / 2 ^ k % 2 ^ j
-
-    low : ℕ
-    low = a * (b % 2 ^ k)
-
-    same : low + a * d * 2 ^ k ≡ a * (b % 2 ^ (k + j))
-    same =
-        omega (
-          arith,
-          ap (λ (n : ℕ). a * (b % 2 ^ n)) (add_comm k j),
-          ap (λ (n : ℕ). a * n) (mod-pow-add b j k),
-          mul-add a (d * 2 ^ k) (b % 2 ^ k),
-          mul_assoc a d (2 ^ k),
-        )

@@ -9,11 +9,7 @@ pub fn low_mask(n: u64) -> u64
     requires { n ≤ 64 }
     ensures { result ≡ low_mask n }
 {
-    if n < 64 {
-        (1 << n) - 1
-    } else {
-        0xffffffffffffffff
-    }
+    if n < 64 { (1 << n) - 1 } else { u64::MAX }
 }
 
 // The w lowest bits of x; all of x from width 64 on.
@@ -28,20 +24,21 @@ pub fn cut_to(x: u64, w: u64) -> u64
 pub fn exceeds(a: u64, b: u64) -> bool
     ensures { result ≡ exceeds a b }
 {
-    let both = a & b;
-    both != a
+    a & b != a
 }
 
 // How many bits of x are one.
+#[tactic(auto, using(crate::proofs::Counts::ones_in_ones))]
 pub fn count_ones(x: u64) -> u64
     ensures { result ≡ count_ones x }
 {
-    u64::count_ones(x) as u64
+    u64::from(x.count_ones())
 }
 
 // How many bits x has up to its highest one; none where x is 0.
+#[tactic(auto, using(crate::proofs::Counts::length_leading))]
 pub fn bit_length(x: u64) -> u64
     ensures { result ≡ bit_length x }
 {
-    64 - u64::leading_zeros(x) as u64
+    64 - u64::from(x.leading_zeros())
 }

@@ -2,18 +2,15 @@
 -- Assumes nothing.
 use mathlib.Core.Path.{◌≡◌, refl, sym, ap, ◌∙◌}
 use mathlib.Core.Logic.{◌⊎◌, inl, inr}
-use mathlib.Core.List.{List, [], ◌∷◌, ◌++◌}
+use mathlib.Core.List.{List, ◌++◌}
 use Prim.Native.Nat.{ℕ, zero, suc, ◌+◌, ◌*◌, ◌≤◌, ◌<◌}
 use native.Mathlib.Nat.{add-zero, zero-add, add-suc, suc-add, le_of_suc-le-suc, eq-or-lt_of_le, not-suc-le-zero, mul-suc}
 use native.Mathlib.Numerals.{add-one}
 use native.Mathlib.Omega.{arith}
 use lib.ListN.{length, get_or, set, take, length-set}
 use lib.Seq.{ext_get_or, get_or-set_same, get_or-set_other, take_at}
+use Rattle.std.proofs.lemmas.List.{length-append}
 use Rattle.endian.specs.Lists.{words_from, words_of, sum_to}
-
-pub length_append : (l m : List ℕ) → length (l ++ m) ≡ length l + length m
-length_append [] m = omega arith
-length_append (x ∷ l) m = let e = length_append l m in omega arith
 
 length_from : (f : ℕ → ℕ) (i n : ℕ) → length (words_from f i n) ≡ n
 unfolding words_from
@@ -95,10 +92,7 @@ filled_all {f} {n} {list} {i} t h = let s = t.size in words_only f n list s (λ 
 -- a list whose front has n words, when the front is lent
 module _ (front rest : List ℕ) {n : ℕ} (e : length front ≡ n) where
   pub front_within : n ≤ length (front ++ rest)
-  front_within = let s = length_append front rest in omega arith
-
-  pub front_taken : take n (front ++ rest) ≡ front
-  front_taken = take_at front rest n e
+  front_within = omega (arith, length-append front rest)
 
   pub taken_length : n ≡ length (take n (front ++ rest))
-  taken_length = sym (ap length front_taken ∙ e)
+  taken_length = sym (ap length (take_at front rest n e) ∙ e)

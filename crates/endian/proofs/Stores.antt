@@ -9,7 +9,7 @@ use native.Mathlib.Omega.{arith}
 use lib.Arith.{lt-one}
 use lib.Dec.{lit<}
 use lib.ListN.{length, take, drop, get_or, set, length-set, length-drop}
-use lib.Seq.{sets, sets-eq, get_or-set_same, get_or-set_other, length-take-le, take_all, drop-length, drop-drop}
+use lib.Seq.{sets, sets-eq, get_or-set_same, get_or-set_other, take_all, drop-length, drop-drop}
 use borrow.Rule.Slice.PartMut.{mid_of, post_of, put_mid, Post-is}
 use Rattle.endian.specs.Bytes.{number_at, bytes}
 
@@ -52,9 +52,6 @@ number_stored (suc size) v l at h g =
     ∙ mod-add-div v 256
 
 -- ---- the part of a list from a place on is lent, and comes back with its first bytes written
-
-pub part_length : (at : ℕ) (d : List ℕ) → length (mid_of at (length d - at) d) ≡ length d - at
-part_length at d = length-take-le (length d - at) (drop at d) (let e = length-drop at d in omega arith)
 
 module _ (at : ℕ) (d part vs : List ℕ) (h : at + length vs ≤ length d) where
   rest : List ℕ

@@ -12,9 +12,10 @@ ghost use Rattle.signal.specs.Results.{emptied, arithmetic_down, signed_at, resu
 use bits::arith::{add, mul, shl, shr, sub};
 use bits::mask::{cut_to, low_mask};
 use netlist::layout::{fields_at, record_at, width_at};
-use netlist::record::Kind;
+use netlist::record::{Fields, Kind, Record};
 
 // x above the n bits of y, in w bits.
+#[tactic(auto, using(bits::proofs::Modulo::sum_cut))]
 fn concat(x: u64, y: u64, n: u64, w: u64) -> u64
     requires { w ≤ 64 }
     ensures { result ≡ cut w (x * 2 ^ n + y) }
@@ -23,6 +24,7 @@ fn concat(x: u64, y: u64, n: u64, w: u64) -> u64
 }
 
 // The product at width w.
+#[tactic(auto, using(bits::proofs::CutLaws::cut_wrapped))]
 fn product(x: u64, y: u64, w: u64) -> u64
     requires { w ≤ 64 }
     ensures { result ≡ product_at w x y }
@@ -39,13 +41,13 @@ fn choose(x: u64, y: u64, z: u64) -> u64
 fn equal(x: u64, y: u64) -> u64
     ensures { result ≡ cond (eqb x y) 1 0 }
 {
-    if x == y { 1 } else { 0 }
+    u64::from(x == y)
 }
 
 fn below(x: u64, y: u64) -> u64
     ensures { result ≡ cond (ltb x y) 1 0 }
 {
-    if x < y { 1 } else { 0 }
+    u64::from(x < y)
 }
 
 // The places that a shift of w bits down by k leaves empty.
@@ -71,6 +73,7 @@ fn arithmetic_right_shift(x: u64, k: u64, w: u64) -> u64
 }
 
 // Whether x is below y, both in two's complement of w bits. With its top bit turned over, a negative word stands below the others.
+#[tactic(auto, using(signal::proofs::SignedLaws::turned_below, signal::proofs::SignedLaws::top_word))]
 fn signed_below(x: u64, y: u64, w: u64) -> u64
     requires { (1 ≤ w) × (w ≤ 64) }
     ensures { result ≡ cond (ltb (signed_at w x) (signed_at w y)) 1 0 }
@@ -87,23 +90,23 @@ fn result_of(kind: Kind, w: u64, wb: u64, own: u64, x: u64, y: u64, z: u64) -> u
     match kind {
         Kind::Input => own,
         Kind::Constant { k } => k,
-        Kind::Register { a: _, k: _ } => own,
-        Kind::Output { a: _ } => x,
-        Kind::Extract { a: _, k } => cut_to(shr(x, k), w),
-        Kind::Concat { a: _, b: _ } => concat(x, y, wb, w),
-        Kind::And { a: _, b: _ } => x & y,
-        Kind::Or { a: _, b: _ } => x | y,
-        Kind::Xor { a: _, b: _ } => x ^ y,
-        Kind::Mux { a: _, b: _, c: _ } => choose(x, y, z),
-        Kind::Add { a: _, b: _ } => add(x, y, w),
-        Kind::Sub { a: _, b: _ } => sub(x, y, w),
-        Kind::Mul { a: _, b: _ } => product(x, y, w),
-        Kind::Equal { a: _, b: _ } => equal(x, y),
-        Kind::Below { a: _, b: _ } => below(x, y),
-        Kind::LeftShift { a: _, k } => concat(x, 0, k, w),
-        Kind::RightShift { a: _, k } => shr(x, k),
-        Kind::ArithmeticRightShift { a: _, k } => arithmetic_right_shift(x, k, w),
-        Kind::SignedBelow { a: _, b: _ } => signed_below(x, y, wb),
+        Kind::Register { .. } => own,
+        Kind::Output { .. } => x,
+        Kind::Extract { k, .. } => cut_to(shr(x, k), w),
+        Kind::Concat { .. } => concat(x, y, wb, w),
+        Kind::And { .. } => x & y,
+        Kind::Or { .. } => x | y,
+        Kind::Xor { .. } => x ^ y,
+        Kind::Mux { .. } => choose(x, y, z),
+        Kind::Add { .. } => add(x, y, w),
+        Kind::Sub { .. } => sub(x, y, w),
+        Kind::Mul { .. } => product(x, y, w),
+        Kind::Equal { .. } => equal(x, y),
+        Kind::Below { .. } => below(x, y),
+        Kind::LeftShift { k, .. } => concat(x, 0, k, w),
+        Kind::RightShift { k, .. } => shr(x, k),
+        Kind::ArithmeticRightShift { k, .. } => arithmetic_right_shift(x, k, w),
+        Kind::SignedBelow { .. } => signed_below(x, y, wb),
     }
 }
 
@@ -113,19 +116,8 @@ pub fn result_at(file: &[u8], board: &[u64], i: usize) -> u64
     requires { LentAt file.now board.now i }
     ensures { result ≡ result_at (design_of file.now).at (word_at board.now) i }
 {
-    let record = record_at(file, i);
-    let kind = record.kind;
-    let fields = fields_at(file, i);
-    let a = fields.a;
-    let b = fields.b;
-    let c = fields.c;
-    result_of(
-        kind,
-        record.width,
-        width_at(file, b),
-        board[i],
-        board[a],
-        board[b],
-        board[c],
-    )
+    let Record { kind, width, .. } = record_at(file, i);
+    let Fields { a, b, c, .. } = fields_at(file, i);
+    let wb = width_at(file, b);
+    result_of(kind, width, wb, board[i], board[a], board[b], board[c])
 }
