@@ -23,9 +23,7 @@ pub fn load(file: &[u8], values: &[u64], list: &mut [u64])
     requires { Lent file.now values.now × Lent file.now list.old }
     ensures { list.new ≡ next_of (design_of file.now) values.now }
 {
-    let mut i: usize = 0;
-    while i < list.len() {
-        list[i] = next_word(file, values, i);
-        i += 1;
+    for (i, word) in list.iter_mut().enumerate() {
+        *word = next_word(file, values, i);
     }
 }

@@ -13,12 +13,9 @@ fn start_word(file: &[u8], i: usize) -> u64
     requires { record_start i + record_size ≤ length file.now }
     ensures { result ≡ start_word (role_at (design_of file.now) i) }
 {
-    let role = role_at(file, i);
-    match role {
-        Role::Input => 0,
-        Role::Register { a: _, k } => k,
-        Role::Output => 0,
-        Role::Gate => 0,
+    match role_at(file, i) {
+        Role::Register { k, .. } => k,
+        Role::Input | Role::Output | Role::Gate => 0,
     }
 }
 
@@ -27,9 +24,7 @@ pub fn reset(file: &[u8], list: &mut [u64])
     requires { Lent file.now list.old }
     ensures { list.new ≡ start_of (design_of file.now) }
 {
-    let mut i: usize = 0;
-    while i < list.len() {
-        list[i] = start_word(file, i);
-        i += 1;
+    for (i, word) in list.iter_mut().enumerate() {
+        *word = start_word(file, i);
     }
 }

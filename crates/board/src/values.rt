@@ -21,9 +21,7 @@ pub fn work_out(file: &[u8], board: &mut [u64])
     requires { Lent file.now board.old }
     ensures { board.new ≡ plain_values (design_of file.now) board.old }
 {
-    let mut i: usize = 0;
-    while i < board.len() {
+    for i in 0..board.len() {
         board[i] = value_at(file, board, i);
-        i += 1;
     }
 }

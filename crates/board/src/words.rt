@@ -14,12 +14,7 @@ use netlist::record::Role;
 fn is_held(role: Role) -> bool
     ensures { result ≡ is_held role }
 {
-    match role {
-        Role::Input => true,
-        Role::Register { a: _, k: _ } => true,
-        Role::Output => false,
-        Role::Gate => false,
-    }
+    matches!(role, Role::Input | Role::Register { .. })
 }
 
 // Whether a cycle takes a word from record i that has a bit at its width or above. The word is looked at before the role: it is hardly ever too

@@ -1,7 +1,6 @@
 // The words of a board list that go over to the compacted file.
 // A caller of `fill_new` has an accepted file and lists of n words.
-ghost use Rattle.std.specs.Prelude.{◌≡◌, length};
-ghost use Rattle.endian.specs.Lists.{words_of};
+ghost use Rattle.std.specs.Prelude.{◌≡◌};
 ghost use Rattle.netlist.specs.Layout.{design_of};
 ghost use Rattle.rules.specs.Lent.{Lent, LentAt};
 ghost use Rattle.changeover.specs.Carried.{carried_word, carried_at, new_list};
@@ -11,26 +10,14 @@ use compactor::survivors::{new_number, number_survivors};
 use netlist::layout::role_at;
 use netlist::record::Role;
 
-// Puts 0 into each word.
-fn clear(list: &mut [u64])
-    ensures { list.new ≡ words_of (λ i. 0) (length list.old) }
-{
-    let mut i: usize = 0;
-    while i < list.len() {
-        list[i] = 0;
-        i += 1;
-    }
-}
-
 // What goes over for a record of this role, by its mask and its word. A register with mask 0 is none any more, and nothing of its state is left.
 fn carried_word(role: Role, mask: u64, word: u64) -> u64
     ensures { result ≡ carried_word role mask word }
 {
     match role {
         Role::Input => word,
-        Role::Register { a: _, k: _ } => word & mask,
-        Role::Output => 0,
-        Role::Gate => 0,
+        Role::Register { .. } => word & mask,
+        Role::Output | Role::Gate => 0,
     }
 }
 
@@ -48,12 +35,10 @@ fn carry(file: &[u8], list: &[u64], board: &[u64], new: &mut [u64])
     requires { Numbered file.now list.now board.now new.old }
     ensures { new.new ≡ new_list (design_of file.now) list.now board.now }
 {
-    let mut i: usize = 0;
-    while i < new.len() {
+    for i in 0..new.len() {
         let at = new_number(new, i) as usize;
         new[i] = 0;
         new[at] = carried_at(file, list, board, i);
-        i += 1;
     }
 }
 
@@ -62,7 +47,7 @@ pub fn fill_new(file: &[u8], list: &[u64], board: &[u64], new: &mut [u64])
     requires { Lent file.now list.now × (Lent file.now board.now × Lent file.now new.old) }
     ensures { new.new ≡ new_list (design_of file.now) list.now board.now }
 {
-    clear(new);
+    new.fill(0);
     number_survivors(file, list, new);
     carry(file, list, board, new);
 }

@@ -88,12 +88,8 @@ module _ {test : ℕ → Bool} {n : ℕ} {list : List ℕ} {count i : ℕ} (t : 
           ap (λ (k : ℕ). get_or (set list i new) k 0) p ∙ get_or-set_same list i new 0 h ∙ is_number ∙ ap (rank_word test) (sym p)
       here_or_before j (inr l) = get_or-set_other list i j new 0 (λ p. omega arith) ∙ t.done j l
 
-  module _ (h : length list ≤ i) where
-    pub numbering_all : list ≡ words_of (rank_word test) n
-    numbering_all = let s = t.size in words_only (rank_word test) n list s (λ j g. t.done j (omega arith))
-
-    pub numbering_count : count ≡ rank_of test n
-    numbering_count = t.count_is ∙ ap (rank_of test) (let s = t.size in let l = t.low in let e : i ≡ n = omega arith in e)
+  pub numbering_all : length list ≤ i → list ≡ words_of (rank_word test) n
+  numbering_all h = let s = t.size in words_only (rank_word test) n list s (λ j g. t.done j (omega arith))
 
 -- ---- what the words of a numbered list say
 

@@ -16,12 +16,7 @@ use netlist::record::{Role, Uses};
 fn is_port(role: Role) -> bool
     ensures { result ≡ is_port role }
 {
-    match role {
-        Role::Input => true,
-        Role::Register { a: _, k: _ } => false,
-        Role::Output => true,
-        Role::Gate => false,
-    }
+    matches!(role, Role::Input | Role::Output)
 }
 
 // Whether record i has mask 0 and is neither input nor output. The mask is looked at first, so that a role is read only where it is 0.
@@ -39,10 +34,7 @@ pub fn is_blank(file: &[u8], list: &[u64], i: usize) -> bool
 fn operand_or(place: usize, count: usize, operand: usize, own: usize) -> usize
     ensures { result ≡ cond (ltb place count) operand own }
 {
-    if place < count {
-        return operand;
-    }
-    own
+    if place < count { operand } else { own }
 }
 
 // Puts 1 at record i and at each record that it names, unless it is blank.
@@ -68,10 +60,8 @@ fn mark_survivors(file: &[u8], list: &[u64], numbers: &mut [u64])
     requires { Cleared file.now list.now numbers.old }
     ensures { numbers.new ≡ flags_of (design_of file.now) list.now }
 {
-    let mut i: usize = 0;
-    while i < list.len() {
+    for i in 0..list.len() {
         mark(file, list, numbers, i);
-        i += 1;
     }
 }
 
@@ -84,12 +74,10 @@ pub fn number_survivors(file: &[u8], list: &[u64], numbers: &mut [u64]) -> usize
 {
     mark_survivors(file, list, numbers);
     let mut count: u64 = 0;
-    let mut i: usize = 0;
-    while i < numbers.len() {
-        let flag = numbers[i];
-        numbers[i] = 2 * count + flag;
+    for word in numbers.iter_mut() {
+        let flag = *word;
+        *word = 2 * count + flag;
         count += flag;
-        i += 1;
     }
     count as usize
 }

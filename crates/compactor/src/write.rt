@@ -92,10 +92,8 @@ fn write_survivors(file: &[u8], list: &[u64], numbers: &[u64], destination: &mut
     requires { Ready file.now list.now destination.old × (numbers.now ≡ numbers_of (design_of file.now) list.now) }
     ensures { destination.new ≡ sets destination.old header_size (survivors_bytes (design_of file.now) list.now) }
 {
-    let mut i: usize = 0;
-    while i < list.len() {
+    for i in 0..list.len() {
         write_survivor(file, list, numbers, destination, i);
-        i += 1;
     }
 }
 

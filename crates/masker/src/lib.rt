@@ -27,10 +27,8 @@ fn seed_of(role: Role, w: u64) -> u64
     ensures { result ≡ seed_of role w }
 {
     match role {
-        Role::Input => 0,
-        Role::Register { a: _, k: _ } => 0,
         Role::Output => low_mask(w),
-        Role::Gate => 0,
+        Role::Input | Role::Register { .. } | Role::Gate => 0,
     }
 }
 
@@ -47,10 +45,8 @@ fn seed(file: &[u8], list: &mut [u64])
     requires { Lent file.now list.old }
     ensures { list.new ≡ words_of (output_seed (design_of file.now)) (count_of file.now) }
 {
-    let mut i: usize = 0;
-    while i < list.len() {
-        list[i] = seed_at(file, i);
-        i += 1;
+    for (i, word) in list.iter_mut().enumerate() {
+        *word = seed_at(file, i);
     }
 }
 

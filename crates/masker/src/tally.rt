@@ -16,11 +16,9 @@ pub fn tally_of(file: &[u8], list: &[u64]) -> Tally
 {
     let mut widths: u64 = 0;
     let mut ones: u64 = 0;
-    let mut i: usize = 0;
-    while i < list.len() {
+    for (i, mask) in list.iter().enumerate() {
         widths += width_at(file, i);
-        ones += count_ones(list[i]);
-        i += 1;
+        ones += count_ones(*mask);
     }
     Tally { widths, ones }
 }

@@ -12,10 +12,8 @@ pub fn write_trimmed(file: &[u8], list: &[u64], destination: &mut [u8])
     ensures { destination.new ≡ trimmed_by file.now list.now }
 {
     destination.copy_from_slice(file);
-    let mut i: usize = 0;
-    while i < list.len() {
+    for i in 0..list.len() {
         let at = keep_start(i);
         write_64(&mut destination[at..], list[i] & keep_at(file, i));
-        i += 1;
     }
 }

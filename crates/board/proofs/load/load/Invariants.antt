@@ -1,6 +1,5 @@
 -- `board::load::load` meets its contract: after i turns the first i words are those after a cycle.
 -- Assumes nothing.
-use Prim.Native.Nat.{◌-◌}
 use Rattle.endian.proofs.ListLaws.{Filled}
 use Rattle.netlist.specs.Layout.{design_of, count_of, role_at}
 use Rattle.clock.specs.Values.{next_word}
@@ -8,6 +7,3 @@ use Rattle.board.proofs.load.load.Given as goal
 
 abbrev pub invariant-loop-i : goal.invariant-loop-i
 invariant-loop-i l = Filled (λ j. next_word l.values (role_at (design_of l.file) j)) (count_of l.file) l.list l.i
-
-abbrev pub decreases-loop-i : goal.decreases-loop-i
-decreases-loop-i l = count_of l.file - l.i

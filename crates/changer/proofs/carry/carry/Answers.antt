@@ -14,42 +14,25 @@ loop-i-init c = let args = c.args in
 
 pub carried_at-requires : goal.carried_at-requires
 unfolding design_of
-carried_at-requires c = let loop = c.loop-i in
-    let pre = c.requires in
-    let t = c.loop-i-test.true in
-    let s = loop.invariant.size in
-    let n = c.new_number-at.ensures in
-    let b = number_low _ _ _ loop.invariant t in (
-      record { accepted = pre.accepted; size = pre.masks; below = omega arith },
-      record { accepted = pre.accepted; size = pre.boards; below = omega arith },
-    )
+carried_at-requires c = let pre = c.requires in (
+  record { accepted = pre.accepted; size = pre.masks; below = omega arith },
+  record { accepted = pre.accepted; size = pre.boards; below = omega arith },
+)
 
 pub offset_bounds-new-at : goal.offset_bounds-new-at
 unfolding design_of
-offset_bounds-new-at c = let loop = c.loop-i in
-    let pre = c.requires in
-    let t = c.loop-i-test.true in
-    let s = loop.invariant.size in
-    let f = few _ _ pre.accepted in
+offset_bounds-new-at c = let f = few _ _ c.requires.accepted in
     let n = c.new_number-at.ensures in
-    let b = number_low _ _ _ loop.invariant t in
+    let b = number_low _ _ _ c.loop-i.invariant (omega arith) in
     omega arith
 
 pub bounds-new-at : goal.bounds-new-at
-bounds-new-at c = let loop = c.loop-i in
-    let t = c.loop-i-test.true in
-    let n = c.new_number-at.ensures in
-    let b = number_low _ _ _ loop.invariant t in
+bounds-new-at c = let n = c.new_number-at.ensures in
+    let b = number_low _ _ _ c.loop-i.invariant (omega arith) in
     rw length-set (omega arith)
 
-pub loop-i-smaller : goal.loop-i-smaller
-unfolding design_of
-loop-i-smaller c = let loop = c.loop-i in
-    let t = c.loop-i-test.true in let s = loop.invariant.size in omega arith
-
 pub loop-i-preserved : goal.loop-i-preserved
-loop-i-preserved c = let loop = c.loop-i in
-    rw (c.new_number-at.ensures, c.carried_at.ensures) (carrying_next _ _ _ loop.invariant c.loop-i-test.true)
+loop-i-preserved c = rw (c.new_number-at.ensures, c.carried_at.ensures) (carrying_next _ _ _ c.loop-i.invariant (omega arith))
 
 pub returns : goal.returns
-returns c = carrying_all _ _ _ c.loop-i.invariant c.loop-i-test.false
+returns c = carrying_all _ _ _ c.loop-i.invariant (omega arith)

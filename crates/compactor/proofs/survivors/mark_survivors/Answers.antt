@@ -11,9 +11,8 @@ loop-i-init c = marking_none _ _ _ c.requires.room c.requires.clear
 
 pub loop-i-preserved : goal.loop-i-preserved
 unfolding design_of
-loop-i-preserved c = let loop = c.loop-i in
-    marking_next loop.invariant (let t = c.loop-i-test.true in let s = c.requires.size in omega arith) c.mark.ensures
+loop-i-preserved c = marking_next c.loop-i.invariant (omega arith) c.mark.ensures
 
 pub returns : goal.returns
 unfolding design_of
-returns c = marking_all c.loop-i.invariant (let t = c.loop-i-test.false in let s = c.requires.size in omega arith)
+returns c = marking_all c.loop-i.invariant (omega arith)

@@ -11,15 +11,11 @@ loop-i-init c = writing_none _ _ _
 pub loop-i-preserved : goal.loop-i-preserved
 unfolding design_of
 loop-i-preserved c = let args = c.args in
-    let pre = c.requires in
-    let loop = c.loop-i in
-    writing_next (design_of args.file.now) pre.0.accepted.sound args.list.now args.destination.now _ _ loop.i loop.invariant
-    (let t = c.loop-i-test.true in let s = pre.0.size in omega arith) c.write_survivor.ensures
+    writing_next (design_of args.file.now) c.requires.0.accepted.sound args.list.now args.destination.now _ _ c.loop-i.i
+    c.loop-i.invariant (omega arith) c.write_survivor.ensures
 
 pub returns : goal.returns
 unfolding design_of
 returns c = let args = c.args in
-    let pre = c.requires in
-    let loop = c.loop-i in
-    writing_all (design_of args.file.now) pre.0.accepted.sound args.list.now args.destination.now _ loop.i loop.invariant
-    (let t = c.loop-i-test.false in let s = pre.0.size in omega arith)
+    writing_all (design_of args.file.now) c.requires.0.accepted.sound args.list.now args.destination.now _ c.loop-i.i
+    c.loop-i.invariant (omega arith)

@@ -1,12 +1,8 @@
 -- `compactor::write::write_survivors` meets its contract: after i turns the records of the survivors below i are written.
 -- Assumes nothing.
-use Prim.Native.Nat.{◌-◌}
-use Rattle.netlist.specs.Layout.{design_of, count_of}
+use Rattle.netlist.specs.Layout.{design_of}
 use Rattle.compactor.proofs.WriteLaws.{Writing}
 use Rattle.compactor.proofs.write.write_survivors.Given as goal
 
 abbrev pub invariant-loop-i : goal.invariant-loop-i
 invariant-loop-i l = Writing (design_of l.file) l.list l.initial.destination l.destination l.i
-
-abbrev pub decreases-loop-i : goal.decreases-loop-i
-decreases-loop-i l = count_of l.file - l.i

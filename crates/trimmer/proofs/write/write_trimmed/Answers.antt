@@ -21,9 +21,8 @@ pub loop-i-preserved : goal.loop-i-preserved
 unfolding record_at
 loop-i-preserved c = let pre = c.requires.0 in
     let loop = c.loop-i in
-    let h = c.loop-i-test.true in
-    trimming_next _ _ _ _ _ _ _ loop.invariant h (holds_record _ pre.accepted loop.i (let e = pre.size in omega arith)) c.keep_start-at.ensures
+    trimming_next _ _ _ _ _ _ _ loop.invariant (omega arith) (holds_record _ pre.accepted loop.i (omega arith)) c.keep_start-at.ensures
     (ap (bit_and (mask_at c.args.list.now loop.i)) c.keep_at.ensures) c.write_64.ensures
 
 pub returns : goal.returns
-returns c = trimming_all _ _ _ _ c.loop-i.invariant c.loop-i-test.false c.requires.0.size
+returns c = trimming_all _ _ _ _ c.loop-i.invariant (omega arith) c.requires.0.size
