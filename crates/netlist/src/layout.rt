@@ -41,7 +41,7 @@ pub fn code_at(file: &[u8], i: usize) -> u64
     ensures { result ≡ code_at file.now i }
 {
     let at = record_start(i);
-    file[at] as u64
+    u64::from(file[at])
 }
 
 pub fn width_at(file: &[u8], i: usize) -> u64
@@ -49,7 +49,7 @@ pub fn width_at(file: &[u8], i: usize) -> u64
     ensures { result ≡ width_at file.now i }
 {
     let at = record_start(i) + 1;
-    file[at] as u64
+    u64::from(file[at])
 }
 
 pub fn fields_at(file: &[u8], i: usize) -> Fields
@@ -108,5 +108,5 @@ pub fn register_at(file: &[u8], i: usize) -> u64
     ensures { result ≡ cond (is_register (role_at (design_of file.now) i)) 1 0 }
 {
     let at = record_start(i);
-    (256 - (file[at] as u64 ^ Record::REGISTER)) / 256
+    (256 - (u64::from(file[at]) ^ Record::REGISTER)) / 256
 }

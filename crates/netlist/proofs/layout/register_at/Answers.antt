@@ -23,7 +23,11 @@ equal-bytes x y h g = go (eqb x y) refl
         omega (arith, some)
 
 pub overflow_sub-result : goal.overflow_sub-result
-overflow_sub-result c = let small = c.type_inv.file c.record_start-at.result in let l = xor_lt 8 (byte_at c.args.file.now c.record_start-at.result) 2 (omega arith) (lit< tt) in omega (arith, l)
+overflow_sub-result c =
+    let small = c.type_inv.file c.record_start-at.result in
+    let e = c.from.ensures in
+    let l = xor_lt 8 c.from.result 2 (omega arith) (lit< tt) in
+    omega (arith, l)
 
 pub returns : goal.returns
 unfolding design_of record_at code_at
@@ -31,6 +35,7 @@ returns c =
     let file = c.args.file.now in
     let start = c.record_start-at in
     let small = c.type_inv.file start.result in
-    equal-bytes (byte_at file start.result) 2 (omega arith) (lit< tt)
+    ap (λ (n : ℕ). (256 - bit_xor n 2) / 256) c.from.ensures
+    ∙ equal-bytes (byte_at file start.result) 2 (omega arith) (lit< tt)
     ∙ ap (λ (n : ℕ). cond (eqb (byte_at file n) 2) 1 0) start.ensures
     ∙ ap (λ (t : Bool). cond t 1 0) (sym (register_code (code_at file c.args.i) (fields_at file c.args.i)))
