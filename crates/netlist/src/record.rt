@@ -7,7 +7,7 @@ ghost use Rattle.netlist.specs.Rules.{test_all};
 ghost use Rattle.netlist.specs.declared.record.Role.TheVariants.{Input, Gate};
 
 // The four fields of a record in the file, used or not.
-#[derive(Clone, Copy)]
+#[derive(Clone, Copy, PartialEq, Eq)]
 pub struct Fields {
     pub a: usize,
     pub b: usize,
