@@ -246,11 +246,7 @@ impl Uses {
         Uses {
             count: 1,
             a,
-            b: 0,
-            c: 0,
-            k,
-            word,
-            role,
+            ..Uses::none(k, word, role)
         }
     }
 
@@ -259,12 +255,8 @@ impl Uses {
     {
         Uses {
             count: 2,
-            a,
             b,
-            c: 0,
-            k: 0,
-            word: 0,
-            role: Role::Gate,
+            ..Uses::one(a, 0, 0, Role::Gate)
         }
     }
 
@@ -273,12 +265,8 @@ impl Uses {
     {
         Uses {
             count: 3,
-            a,
-            b,
             c,
-            k: 0,
-            word: 0,
-            role: Role::Gate,
+            ..Uses::two(a, b)
         }
     }
 }
