@@ -1,4 +1,4 @@
--- That the operands of an accepted file's records can be read, for the proofs of this crate; and the laws of the asks that the code's struct
--- holds, which the crates above cite. Assumes nothing.
+-- What a file's constants are, and that the operands of an accepted file's records can be read, for the proofs of this crate.
+-- Assumes nothing.
+mod Constants
 mod Reading
-pub mod ListedAsks

@@ -1,6 +1,6 @@
 -- How the code holds what a record asks, and what it can read. No rule is stated here, and no promise of an operation mentions it.
 -- Assumes nothing.
-use Rattle.std.specs.Prelude.{List, [], ◌∷◌, ℕ, ◌+◌, ◌≤◌, length, take}
+use Rattle.std.specs.Prelude.{List, [], ◌∷◌, ℕ, ◌+◌, ◌≤◌, length}
 use Rattle.std.specs.Int.Bits.{bit_and, bit_xor}
 use Rattle.netlist.specs.Limits.{max_width}
 use Rattle.netlist.specs.Kinds.{uses_of, width_rules}
@@ -9,10 +9,14 @@ use Rattle.netlist.specs.Rules.{AllHold}
 use Rattle.netlist.specs.declared.record.Kind.{Kind}
 use Rattle.signal.specs.declared.Ask.{Ask}
 use Rattle.demand.specs.declared.Asks.{Asks}
+use Rattle.demand.specs.declared.Asks.TheVariants.{None, One, Two, Three}
 
--- The asks that the code's struct holds.
+-- The asks that the code's enum holds.
 abbrev pub listed : Asks → List Ask
-listed r = take r.count (r.first ∷ r.second ∷ r.third ∷ [])
+listed None = []
+listed (One x) = x ∷ []
+listed (Two x y) = x ∷ y ∷ []
+listed (Three x y z) = x ∷ y ∷ z ∷ []
 
 -- D cut by v as the code does it, some bits inverted: D and v with none, D without v with those of D.
 abbrev pub cut_inverting : ℕ → ℕ → ℕ → ℕ

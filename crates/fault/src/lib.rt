@@ -2,7 +2,7 @@
 // A caller has an accepted file and a list with a word for each record. No kind is looked at here.
 #![tactic(auto)]
 
-ghost use Rattle.std.specs.Prelude.{◌≡◌, ◌<◌, min, length};
+ghost use Rattle.std.specs.Prelude.{◌≡◌, ◌<◌, length};
 ghost use Rattle.netlist.specs.Layout.{design_of};
 ghost use Rattle.rules.specs.Lent.{Lent, LentAt};
 ghost use Rattle.signal.specs.AskLists.{Named};
@@ -15,17 +15,11 @@ use masker::seed_at;
 use netlist::layout::width_at;
 use signal::Ask;
 
-fn smaller(a: usize, b: usize) -> usize
-    ensures { result ≡ min a b }
-{
-    if a < b { a } else { b }
-}
-
 // The lowest record at fault: `low` so far, or `at` where that is at fault and lower.
 fn lower_if(fault: bool, at: usize, low: usize) -> usize
     ensures { result ≡ lower_if fault at low }
 {
-    if fault { smaller(at, low) } else { low }
+    if fault { at.min(low) } else { low }
 }
 
 // The same with an ask: its operand is at fault where its mask lacks a bit that is asked for.
@@ -38,26 +32,21 @@ fn of_ask(list: &[u64], ask: Ask, low: usize) -> usize
 }
 
 // The same with all that a record asks.
+#[tactic(auto, unfolding(crate::specs::Fault::asks_fault))]
 fn of_asks(list: &[u64], asks: Asks, low: usize) -> usize
     requires { Named (length list.now) (listed asks) }
     ensures { result ≡ asks_fault list.now low (listed asks) }
 {
-    let count = asks.count;
-    if count == 0 {
-        return low;
+    match asks {
+        Asks::None => low,
+        Asks::One(x) => of_ask(list, x, low),
+        Asks::Two(x, y) => of_ask(list, y, of_ask(list, x, low)),
+        Asks::Three(x, y, z) => of_ask(list, z, of_ask(list, y, of_ask(list, x, low))),
     }
-    let first = of_ask(list, asks.first, low);
-    if count == 1 {
-        return first;
-    }
-    let second = of_ask(list, asks.second, first);
-    if count == 2 {
-        return second;
-    }
-    of_ask(list, asks.third, second)
 }
 
 // The same with record i itself: its mask leaves its width, or lacks a bit of its seed.
+#[tactic(auto, unfolding(netlist::specs::Layout::design_of, netlist::specs::Layout::record_at))]
 fn of_own(file: &[u8], list: &[u64], i: usize, low: usize) -> usize
     requires { LentAt file.now list.now i }
     ensures { result ≡ own_fault (design_of file.now) list.now i low }
@@ -68,6 +57,7 @@ fn of_own(file: &[u8], list: &[u64], i: usize, low: usize) -> usize
 }
 
 // The same with record i itself and all that it asks. With D 0 it asks for no bit.
+#[tactic(auto, using(signal::proofs::AskedNothing::asked_none, crate::proofs::FaultLaws::asks_none), unfolding(crate::specs::Fault::record_fault, signal::specs::Asks::asked, netlist::specs::Layout::design_of))]
 fn of_record(file: &[u8], list: &[u64], i: usize, low: usize) -> usize
     requires { LentAt file.now list.now i }
     ensures { result ≡ record_fault (design_of file.now) list.now i low }
@@ -81,15 +71,14 @@ fn of_record(file: &[u8], list: &[u64], i: usize, low: usize) -> usize
 }
 
 // The lowest record at fault, or the count of records where none is.
+#[tactic(auto, using(crate::proofs::FaultLaws::searched_none, crate::proofs::FaultLaws::searched_next), unfolding(netlist::specs::Layout::design_of))]
 pub fn lowest_fault(file: &[u8], list: &[u64]) -> usize
     requires { Lent file.now list.now }
     ensures { result ≡ lowest_fault (design_of file.now) list.now }
 {
     let mut low = list.len();
-    let mut i: usize = 0;
-    while i < list.len() {
+    for i in 0..list.len() {
         low = of_record(file, list, i, low);
-        i += 1;
     }
     low
 }

@@ -17,7 +17,7 @@ use Rattle.bits.proofs.Counts.{length_in_holds}
 use Rattle.bits.proofs.Digits.{bit_lt, bit_of_or, bit_without, bit_cut, bit_beyond, bit_single, bit_single_other}
 use Rattle.bits.proofs.Shifts.{length_zero, length_le, length_one}
 use Rattle.care.proofs.Families.{same_or_not, below_or_not}
-use Rattle.sweep.specs.Marks.{mark_at, Put, Highest}
+use Rattle.sweep.specs.Marks.{mark_at, Put, NoneMarked, IsHighest}
 
 -- ---- a mark that is set or cleared
 
@@ -60,80 +60,89 @@ module _ (marks : List ℕ) (i : ℕ) (h : i < 64 * length marks) where
 
 -- ---- the highest mark below a record
 
--- while the words are scanned downward and word `at` is next, its marks below record i being `word`: no higher record below i is marked
-pub record Scanned (marks : List ℕ) (i at word : ℕ) : Type 0 where
-  pub place : 64 * at ≤ i
-  pub bound : word < 2 ^ 64
-  pub marks_below : word ≡ cut (i - 64 * at) (word_at marks at)
-  pub above : (j : ℕ) → 64 * at + 64 ≤ j → j < i → mark_at marks j ≡ 0
+-- a word with marks has a length
+pub length_some : (word : ℕ) → word ≢ 0 → word < 2 ^ bit_length word → 1 ≤ bit_length word
+length_some word n = go (bit_length word)
+  where
+    go : (l : ℕ) → word < 2 ^ l → 1 ≤ l
+    go zero h = absurd (n (omega arith))
+    go (suc l) h = omega arith
 
-pub scan_begins : (marks : List ℕ) (i word : ℕ) → word < 2 ^ 64 → word ≡ cut (i % 64) (word_at marks (i / 64)) → Scanned marks i (i / 64) word
-scan_begins marks i word b e =
-    record {
-      place = omega arith;
-      bound = b;
-      marks_below = e ∙ ap (λ (n : ℕ). cut n (word_at marks (i / 64))) (omega arith);
-      above = λ j l h. absurd (let z : 1 ≤ 0 = omega arith in omega arith);
-    }
-
-module _ (marks : List ℕ) (i at word : ℕ) (s : Scanned marks i at word) where
-  -- the marks of a word are those of its records below i
+-- a turn of the scan, at word `at`: no record behind it and below i is marked, and `word` has the marks of its records below i
+module _ (marks : List ℕ) (i at word : ℕ) (place : 64 * at ≤ i) (bound : word < 2 ^ 64) (marks_below : word ≡ cut (i - 64 * at) (word_at marks at))
+    (above : NoneMarked marks (64 * suc at) i) where
   mark_in : (k : ℕ) → k < 64 → 64 * at + k < i → mark_at marks (64 * at + k) ≡ bit word k
   mark_in k h l =
       ap (λ (a : ℕ). bit (word_at marks a) ((64 * at + k) % 64)) (omega arith)
       ∙ ap (bit (word_at marks at)) (omega arith)
       ∙ sym (bit_cut (word_at marks at) (i - 64 * at) k (omega arith))
-      ∙ ap (λ (w : ℕ). bit w k) (sym s.marks_below)
+      ∙ ap (λ (w : ℕ). bit w k) (sym marks_below)
 
-  -- none of them stands at the word's length or above
-  none_above : (j : ℕ) → 64 * at + bit_length word ≤ j → j < i → mark_at marks j ≡ 0
-  none_above j l h = go (below_or_not j (64 * at + 64))
+  -- no mark stands at the word's length or above
+  none_above : NoneMarked marks (64 * at + bit_length word) i
+  none_above j l h = go (below_or_not j (64 * suc at))
     where
-      go : (j < 64 * at + 64) ⊎ (64 * at + 64 ≤ j) → mark_at marks j ≡ 0
+      go : (j < 64 * suc at) ⊎ (64 * suc at ≤ j) → mark_at marks j ≡ 0
       go (inl u) =
           subst (λ (j : ℕ). mark_at marks j ≡ 0) (omega arith)
           (mark_in (j - 64 * at) (omega arith) (omega arith)
-          ∙ bit_beyond (bit_length word) (j - 64 * at) (length_in_holds 64 word s.bound) (omega arith))
-      go (inr u) = s.above j u h
+          ∙ bit_beyond (bit_length word) (j - 64 * at) (length_in_holds 64 word bound) (omega arith))
+      go (inr u) = above j u h
 
   -- a word without marks: none from its first record on
-  none_from : word ≡ 0 → (j : ℕ) → 64 * at ≤ j → j < i → mark_at marks j ≡ 0
-  none_from e j l h = none_above j (let z = ap bit_length e ∙ length_zero in omega arith) h
-
-  pub scan_none : word ≡ 0 → at ≡ 0 → Highest marks i 0
-  scan_none e z = record { below = omega arith; none = λ j l h. none_from e j (omega arith) h; marked = λ l. absurd (omega arith) }
-
-  pub scan_on : word ≡ 0 → (lower : ℕ) → at ≡ suc lower → word_at marks lower < 2 ^ 64 → Scanned marks i lower (word_at marks lower)
-  scan_on e lower n b =
-      let p = s.place in
-      record {
-        place = omega arith;
-        bound = b;
-        marks_below = sym (mod-eq_of_lt (lt_of_lt_of_le b (pow_mono {i = 64} {j = i - 64 * lower} (omega arith))));
-        above = λ j l h. none_from e j (omega arith) h;
-      }
+  scan_none : word ≡ 0 → NoneMarked marks (64 * at) i
+  scan_none e j l h = none_above j (let z = ap bit_length e ∙ length_zero in omega arith) h
 
   -- a word with marks: its highest one is that of the highest record
-  pub scan_found : word ≢ 0 → Highest marks i (64 * at + bit_length word)
-  scan_found n =
-      let p = s.place in
-      let f = short in
-      let o = some (bit_length word) holds in
-      record {
-        below = omega arith;
-        none = none_above;
-        marked = λ l.
-            subst (λ (k : ℕ). mark_at marks k ≡ 1) (omega arith)
-            (mark_in (bit_length word - 1) (let l = length_le 64 s.bound in omega arith) (omega arith)
-            ∙ length_one word (bit_length word - 1) s.bound (omega arith));
-      }
+  scan_in_range : word ≢ 0 → (1 ≤ bit_length word) × (64 * at + bit_length word ≤ i)
+  scan_in_range n = (length_some word n (length_in_holds 64 word bound), let l = short in omega arith)
     where
       short : bit_length word ≤ i - 64 * at
-      short = length_le (i - 64 * at) (subst (λ (w : ℕ). w < 2 ^ (i - 64 * at)) (sym s.marks_below) (mod-lt (word_at marks at) (pow_pos (i - 64 * at))))
+      short = length_le (i - 64 * at) (subst (λ (w : ℕ). w < 2 ^ (i - 64 * at)) (sym marks_below) (mod-lt (word_at marks at) (pow_pos (i - 64 * at))))
 
-      holds : word < 2 ^ bit_length word
-      holds = length_in_holds 64 word s.bound
+  scan_found : word ≢ 0 → IsHighest marks i (64 * at + bit_length word - 1)
+  scan_found n =
+      let r = scan_in_range n in
+      record {
+        below = omega arith;
+        marked =
+            subst (λ (k : ℕ). mark_at marks k ≡ 1) (omega arith)
+            (mark_in (bit_length word - 1) (let l = length_le 64 bound in omega arith) (omega arith)
+            ∙ length_one word (bit_length word - 1) bound (omega arith));
+        none = λ j l. none_above j (omega arith);
+      }
 
-      some : (l : ℕ) → word < 2 ^ l → 1 ≤ l
-      some zero h = absurd (n (omega arith))
-      some (suc l) h = omega arith
+-- the first word to be scanned is that of record i, of which the marks below i count
+module _ (marks : List ℕ) (i word : ℕ) (bound : word < 2 ^ 64) (marks_below : word ≡ cut (i % 64) (word_at marks (i / 64))) where
+  part : word ≡ cut (i - 64 * (i / 64)) (word_at marks (i / 64))
+  part = marks_below ∙ ap (λ (n : ℕ). cut n (word_at marks (i / 64))) (omega arith)
+
+  behind : NoneMarked marks (64 * suc (i / 64)) i
+  behind j l h = absurd (let z : 1 ≤ 0 = omega arith in omega arith)
+
+  pub first_none : word ≡ 0 → NoneMarked marks (64 * (i / 64)) i
+  first_none = scan_none marks i (i / 64) word (omega arith) bound part behind
+
+  pub first_in_range : word ≢ 0 → (1 ≤ bit_length word) × (64 * (i / 64) + bit_length word ≤ i)
+  first_in_range = scan_in_range marks i (i / 64) word (omega arith) bound part behind
+
+  pub first_found : word ≢ 0 → IsHighest marks i (64 * (i / 64) + bit_length word - 1)
+  first_found = scan_found marks i (i / 64) word (omega arith) bound part behind
+
+-- the others are scanned whole; the next one is the word below `next`
+module _ (marks : List ℕ) (i next : ℕ) (turn : 0 < next) (in_range : next ≤ i / 64) (bound : word_at marks (next - 1) < 2 ^ 64) (above : NoneMarked marks (64 * next) i) where
+  whole : word_at marks (next - 1) ≡ cut (i - 64 * (next - 1)) (word_at marks (next - 1))
+  whole = sym (mod-eq_of_lt (lt_of_lt_of_le bound (pow_mono {i = 64} {j = i - 64 * (next - 1)} (omega arith))))
+
+  behind_next : NoneMarked marks (64 * suc (next - 1)) i
+  behind_next j l h = above j (omega arith) h
+
+  pub next_none : word_at marks (next - 1) ≡ 0 → NoneMarked marks (64 * (next - 1)) i
+  next_none = scan_none marks i (next - 1) _ (omega arith) bound whole behind_next
+
+  pub next_in_range : word_at marks (next - 1) ≢ 0
+      → (1 ≤ bit_length (word_at marks (next - 1))) × (64 * (next - 1) + bit_length (word_at marks (next - 1)) ≤ i)
+  next_in_range = scan_in_range marks i (next - 1) _ (omega arith) bound whole behind_next
+
+  pub next_found : word_at marks (next - 1) ≢ 0 → IsHighest marks i (64 * (next - 1) + bit_length (word_at marks (next - 1)) - 1)
+  next_found = scan_found marks i (next - 1) _ (omega arith) bound whole behind_next

@@ -76,11 +76,6 @@ noted_both {low} {i} {before} {between} {after} {marks} {first} {second} l g a b
     gained j p n (inr c) = b.gained j p c
 
 -- asks that are joined one after the other
-pub joins_same : {low i : ℕ} {xs ys : List Ask} {before after marks noted : List ℕ} → xs ≡ ys → Joins low i xs before after marks noted
-    → Joins low i ys before after marks noted
-joins_same {low} {i} {before = before} {after = after} {marks = marks} {noted = noted} e j =
-    subst (λ (xs : List Ask). Joins low i xs before after marks noted) e j
-
 pub joins_none : (low i : ℕ) (masks marks : List ℕ) → Joins low i [] masks masks marks marks
 unfolding grant
 joins_none low i masks marks = record { granted = refl; notes = noted_same low i masks marks }
@@ -89,7 +84,7 @@ joins_length : {low i : ℕ} {xs : List Ask} {before after marks noted : List �
     → length after ≡ length before
 joins_length {xs = xs} {before = before} n j = ap length j.granted ∙ length_grant xs before n
 
-pub joins_more : {low i : ℕ} {x : Ask} {xs : List Ask} {before between after marks first second : List ℕ} → Named (length before) (x ∷ xs)
+joins_more : {low i : ℕ} {x : Ask} {xs : List Ask} {before between after marks first second : List ℕ} → Named (length before) (x ∷ xs)
     → Joins low i (x ∷ []) before between marks first → Joins low i xs between after first second → Joins low i (x ∷ xs) before after marks second
 unfolding grant
 joins_more {xs = xs} {before = before} n a b = record {
@@ -100,3 +95,13 @@ joins_more {xs = xs} {before = before} n a b = record {
     grows : {low i : ℕ} {xs : List Ask} {before after marks noted : List ℕ} → Named (length before) xs → Joins low i xs before after marks noted
         → Inside (mask_at before) (mask_at after)
     grows {xs = xs} {before = before} n j = subst (λ (l : List ℕ). Inside (mask_at before) (mask_at l)) (sym j.granted) (grant_above xs before n)
+
+pub joins_two : {low i : ℕ} {x y : Ask} {before one two marks first second : List ℕ} → Named (length before) (x ∷ y ∷ [])
+    → Joins low i (x ∷ []) before one marks first → Joins low i (y ∷ []) one two first second → Joins low i (x ∷ y ∷ []) before two marks second
+joins_two n a b = joins_more n a b
+
+pub joins_three : {low i : ℕ} {x y z : Ask} {before one two three marks first second third : List ℕ} → Named (length before) (x ∷ y ∷ z ∷ [])
+    → Joins low i (x ∷ []) before one marks first → Joins low i (y ∷ []) one two first second → Joins low i (z ∷ []) two three second third
+    → Joins low i (x ∷ y ∷ z ∷ []) before three marks third
+joins_three {y = y} {z = z} n a b c =
+    joins_more n a (joins_more (subst (λ (m : ℕ). Named m (y ∷ z ∷ [])) (sym (joins_length (n.0, tt) a)) n.1) b c)

@@ -2,8 +2,10 @@
 -- Assumes nothing.
 use mathlib.Core.Path.{◌≡◌, refl, sym, subst, ◌∙◌}
 use mathlib.Core.Logic.{◌≢◌, ◌⊎◌, inl, inr}
+use mathlib.Core.Bool.{true, false, true≢false}
 use mathlib.Core.List.{List}
-use Prim.Native.Nat.{ℕ, suc, ◌-◌, ◌≤◌, ◌<◌}
+use Rattle.std.specs.Prelude.{Option, Some, None, is_some}
+use Prim.Native.Nat.{ℕ, suc, ◌+◌, ◌-◌, ◌≤◌, ◌<◌}
 use native.Mathlib.Omega.{arith}
 use lib.ListN.{length}
 use lib.Seq.{ext_get_or}
@@ -15,7 +17,7 @@ use Rattle.care.specs.Least.{mask_at, grant, width_sum, ones_sum, least_above, F
 use Rattle.care.proofs.Families.{Inside, inside_refl, inside_trans, same_or_not, below_or_not, granted_more, length_grant, grant_above, grant_least, all_bits, all_closed}
 use Rattle.care.proofs.Rounds.{asked_named, closed_grants}
 use Rattle.care.proofs.LeastMasks.{list_inside, least_unique, ones_le, ones_grow, no_more, length_least, least_above_least}
-use Rattle.sweep.specs.Marks.{mark_at, Put, Highest}
+use Rattle.sweep.specs.Marks.{mark_at, Put, NoneMarked, Highest}
 use Rattle.sweep.specs.Sweep.{Between, Settled, Covered, AllCovered, Passed, Noted, Visited, Swept}
 
 -- ---- lists between, one after the other
@@ -67,13 +69,6 @@ module _ (d : Design) (s : Sound d) (before after : List ℕ) (f : Fits d before
   uncared_less l = let m = ones_le d s after narrow in omega arith
 
 -- ---- a visit
-
-pub visit_begins : (d : Design) (low high : ℕ) (masks marks : List ℕ) → Fits d masks → Visited d low high high masks masks marks marks
-visit_begins d low high masks marks f = record { between = between_refl d masks f; covered = λ j h p c. stays j c; added = λ j h m. inl m }
-  where
-    stays : (j : ℕ) → ((high ≤ j) × (j < high)) ⊎ Covered d masks marks j → Covered d masks marks j
-    stays j (inl r) = absurd (let a = r.0 in let b = r.1 in omega arith)
-    stays j (inr c) = c
 
 -- a turn: record i is visited while the masks grow from `masks` to `after`, and all that it asked is granted
 module _ (d : Design) (s : Sound d) (low i high : ℕ) (h : i < d.count) (before masks after marks current noted : List ℕ) (f : Fits d before)
@@ -127,42 +122,46 @@ module _ (d : Design) (s : Sound d) (low i high : ℕ) (h : i < d.count) (before
 
 -- ---- a sweep
 
-pub sweep_begins : (d : Design) (masks marks : List ℕ) (r : ℕ) → Fits d masks → AllCovered d masks marks → Highest marks d.count r → Swept d r masks masks marks
-sweep_begins d masks marks r f c g =
-    record { between = between_refl d masks f; covered = c; added = λ j h l m. absurd (let z = g.none j l h in omega arith) }
+pub sweep_begins : (d : Design) (masks marks : List ℕ) (i : ℕ) → d.count ≤ i → Fits d masks → AllCovered d masks marks → Swept d i masks masks marks
+sweep_begins d masks marks i l f c = record { between = between_refl d masks f; covered = c; added = λ j h m. absurd (omega arith) }
 
--- a turn: the mark of the record below j is cleared, that record is visited, and the next one is the record below r
-module _ (d : Design) (s : Sound d) (j r : ℕ) (h : 0 < j) (before masks after marks cleared noted : List ℕ) (f : Fits d before) (w : Swept d j before masks marks)
-    (p : Put marks (j - 1) 0 cleared) (v : Visited d (j - 1) (j - 1) j masks after cleared noted) (g : Highest noted (j - 1) r) where
-  cleared_other : (k : ℕ) → k ≢ j - 1 → Covered d masks marks k → Covered d masks cleared k
+-- where no record from `low` on and below i is marked, the sweep has come down to `low`
+pub sweep_lower : {d : Design} {low i : ℕ} {before masks marks : List ℕ} → Swept d i before masks marks → NoneMarked marks low i → Swept d low before masks marks
+sweep_lower {d} {low} {i} {before} {masks} {marks} w n =
+    record { between = w.between; covered = w.covered; added = λ j l a m. added j l a m (below_or_not j i) }
+  where
+    added : (j : ℕ) → j < d.count → low ≤ j → mark_at marks j ≡ 1 → (j < i) ⊎ (i ≤ j) → ones_sum d before < ones_sum d masks
+    added j l a m (inl b) = absurd (let z = n j a b in omega arith)
+    added j l a m (inr b) = w.added j l b m
+
+-- a turn: the mark of record i is cleared, and the record is visited
+module _ (d : Design) (s : Sound d) (i : ℕ) (before masks after marks cleared noted : List ℕ) (f : Fits d before) (w : Swept d (i + 1) before masks marks)
+    (p : Put marks i 0 cleared) (v : Visited d i i (i + 1) masks after cleared noted) where
+  cleared_other : (k : ℕ) → k ≢ i → Covered d masks marks k → Covered d masks cleared k
   cleared_other k n (inl m) = inl (p.others k n ∙ m)
   cleared_other k n (inr q) = inr q
 
-  before_visit : (k : ℕ) → k < d.count → (k ≡ j - 1) ⊎ (k ≢ j - 1) → ((j - 1 ≤ k) × (k < j)) ⊎ Covered d masks cleared k
-  before_visit k l (inl e) = inl (let a : j - 1 ≤ k = omega arith in a, let b : k < j = omega arith in b)
+  before_visit : (k : ℕ) → k < d.count → (k ≡ i) ⊎ (k ≢ i) → ((i ≤ k) × (k < i + 1)) ⊎ Covered d masks cleared k
+  before_visit k l (inl e) = inl (let a : i ≤ k = omega arith in a, let b : k < i + 1 = omega arith in b)
   before_visit k l (inr n) = inr (cleared_other k n (w.covered k l))
 
   -- a mark that was there already means that a bit was added before
-  added_before_visit : (k : ℕ) → k < d.count → j - 1 ≤ k → mark_at cleared k ≡ 1 → (k ≡ j - 1) ⊎ (k ≢ j - 1) → ones_sum d before < ones_sum d masks
+  added_before_visit : (k : ℕ) → k < d.count → i ≤ k → mark_at cleared k ≡ 1 → (k ≡ i) ⊎ (k ≢ i) → ones_sum d before < ones_sum d masks
   added_before_visit k l a m (inl e) = absurd (let z : 0 ≡ 1 = sym p.here ∙ subst (λ (k : ℕ). mark_at cleared k ≡ 1) e m in omega arith)
   added_before_visit k l a m (inr n) = w.added k l (omega arith) (sym (p.others k n) ∙ m)
 
-  added_so_far : (k : ℕ) → k < d.count → j - 1 ≤ k → (mark_at cleared k ≡ 1) ⊎ (ones_sum d masks < ones_sum d after) → ones_sum d before < ones_sum d after
+  added_so_far : (k : ℕ) → k < d.count → i ≤ k → (mark_at cleared k ≡ 1) ⊎ (ones_sum d masks < ones_sum d after) → ones_sum d before < ones_sum d after
   added_so_far k l a (inl m) =
-      let b = added_before_visit k l a m (same_or_not k (j - 1)) in
+      let b = added_before_visit k l a m (same_or_not k i) in
       let c = ones_rise d s masks after (between_fits d s before masks f w.between) v.between in
       omega arith
   added_so_far k l a (inr m) = let b = ones_rise d s before masks f w.between in omega arith
 
-  added_from : (k : ℕ) → k < d.count → r ≤ k → mark_at noted k ≡ 1 → (k < j - 1) ⊎ (j - 1 ≤ k) → ones_sum d before < ones_sum d after
-  added_from k l a m (inl b) = absurd (let z = g.none k a b in omega arith)
-  added_from k l a m (inr b) = added_so_far k l b (v.added k l m)
-
-  pub sweep_step : Swept d r before after noted
+  pub sweep_step : Swept d i before after noted
   sweep_step = record {
     between = between_trans d before masks after w.between v.between;
-    covered = λ k l. v.covered k l (below_or_not k (j - 1)) (before_visit k l (same_or_not k (j - 1)));
-    added = λ k l a m. added_from k l a m (below_or_not k (j - 1));
+    covered = λ k l. v.covered k l (below_or_not k i) (before_visit k l (same_or_not k i));
+    added = λ k l a m. added_so_far k l a (v.added k l m);
   }
 
 -- ---- no mark is left
@@ -181,10 +180,17 @@ pub all_visited : (d : Design) (before after marks noted : List ℕ) {n : ℕ} �
 all_visited d before after marks noted e v j h = v.covered j h (inr (omega arith)) (inl (let a : 0 ≤ j = omega arith in a, omega arith))
 
 -- and settled after a sweep that leaves none marked
-pub settled_all : (d : Design) {before masks marks : List ℕ} → Swept d 0 before masks marks → ((i : ℕ) → i < d.count → mark_at marks i ≡ 0)
-    → (i : ℕ) → i < d.count → Settled d masks i
-settled_all d {before} {masks} {marks} w n i h = go (w.covered i h)
+pub settled_all : {d : Design} {before masks marks : List ℕ} → Swept d 0 before masks marks → {n : ℕ} → n ≡ d.count → (r : Option ℕ) → is_some r ≡ false
+    → Highest marks n r → (i : ℕ) → i < d.count → Settled d masks i
+settled_all {d} {before} {masks} {marks} w e None q none i h = go (w.covered i h)
   where
     go : Covered d masks marks i → Settled d masks i
-    go (inl m) = absurd (let z = n i h in omega arith)
-    go (inr q) = q
+    go (inl m) = absurd (let z = none i (omega arith) (omega arith) in omega arith)
+    go (inr s) = s
+settled_all w e (Some m) q h i l = absurd (true≢false q)
+
+-- a sweep that leaves one marked has added a bit
+pub added_some : {d : Design} {before masks marks : List ℕ} → Swept d 0 before masks marks → {n : ℕ} → n ≡ d.count → (r : Option ℕ) → is_some r ≡ true
+    → Highest marks n r → ones_sum d before < ones_sum d masks
+added_some w e None q none = absurd (true≢false (sym q))
+added_some w e (Some m) q h = let b = h.below in w.added m (omega arith) (omega arith) h.marked

@@ -28,6 +28,7 @@ fn passed(low: usize, i: usize, at: usize) -> bool
 }
 
 // Joins a mask that is asked of an operand to the operand's own. An operand that gains a bit is marked, unless the visit still comes to it.
+#[tactic(auto, using(crate::proofs::NotedLaws::not_passed, crate::proofs::NotedLaws::noted_same, crate::proofs::NotedLaws::noted_marked, crate::proofs::NotedLaws::noted_coming), unfolding(care::specs::Least::grant))]
 fn join(list: &mut [u64], marks: &mut [u64], ask: Ask, low: usize, i: usize)
     requires { (ask.operand < length list.old) × (ask.operand < 64 * length marks.old) }
     ensures { Joins low i (ask ∷ []) list.old list.new marks.old marks.new }
@@ -44,35 +45,33 @@ fn join(list: &mut [u64], marks: &mut [u64], ask: Ask, low: usize, i: usize)
     }
 }
 
-// Joins all that record i asks. A single ask has a call of its own, so that nothing has to stand in for a second and a third.
+// Joins all that record i asks.
 fn join_all(list: &mut [u64], marks: &mut [u64], asks: Asks, low: usize, i: usize)
     requires { Named (length list.old) (listed asks) × (length list.old < 64 * length marks.old) }
     ensures { Joins low i (listed asks) list.old list.new marks.old marks.new }
 {
-    let count = asks.count;
-    if count == 0 {
-        return;
+    match asks {
+        Asks::None => {}
+        Asks::One(x) => join(list, marks, x, low, i),
+        Asks::Two(x, y) => {
+            join(list, marks, x, low, i);
+            join(list, marks, y, low, i);
+        }
+        Asks::Three(x, y, z) => {
+            join(list, marks, x, low, i);
+            join(list, marks, y, low, i);
+            join(list, marks, z, low, i);
+        }
     }
-    if count == 1 {
-        join(list, marks, asks.first, low, i);
-        return;
-    }
-    join(list, marks, asks.first, low, i);
-    join(list, marks, asks.second, low, i);
-    if count == 2 {
-        return;
-    }
-    join(list, marks, asks.third, low, i);
 }
 
 // Visits the records from `high` - 1 down to `low`. A record with D 0 asks for no bit.
+#[tactic(auto, unfolding(netlist::specs::Layout::design_of))]
 fn visit(file: &[u8], list: &mut [u64], marks: &mut [u64], low: usize, high: usize)
     requires { Ready file.now list.old marks.old × (low ≤ high) × (high ≤ count_of file.now) }
     ensures { Visited (design_of file.now) low low high list.old list.new marks.old marks.new }
 {
-    let mut i = high;
-    while low < i {
-        i -= 1;
+    for i in (low..high).rev() {
         let d = demand_at(file, i, list[i]);
         if d != 0 {
             let asks = asked(file, i, d);
@@ -82,19 +81,21 @@ fn visit(file: &[u8], list: &mut [u64], marks: &mut [u64], low: usize, high: usi
 }
 
 // One sweep: backward from marked record to marked record. A mark is cleared before the visit, which may set it again.
+#[tactic(auto, using(crate::proofs::SweepLaws::sweep_begins), unfolding(netlist::specs::Layout::design_of))]
 fn sweep(file: &[u8], list: &mut [u64], marks: &mut [u64])
     requires { Ready file.now list.old marks.old × AllCovered (design_of file.now) list.old marks.old }
     ensures { Swept (design_of file.now) 0 list.old list.new marks.new }
 {
-    let mut i = highest_below(marks, list.len());
-    while 0 < i {
-        unmark(marks, i - 1);
-        visit(file, list, marks, i - 1, i);
-        i = highest_below(marks, i - 1);
+    let mut below = list.len();
+    while let Some(i) = highest_below(marks, below) {
+        unmark(marks, i);
+        visit(file, list, marks, i, i + 1);
+        below = i;
     }
 }
 
 // The same as `raise`, with words for the marks. Each record is visited once, whichever are marked before, and then as often as marks are left.
+#[tactic(auto, unfolding(netlist::specs::Layout::design_of))]
 fn settle(file: &[u8], list: &mut [u64], marks: &mut [u64])
     requires { Ready file.now list.old marks.old }
     ensures { list.new ≡ least_above (design_of file.now) list.old }
@@ -103,17 +104,18 @@ fn settle(file: &[u8], list: &mut [u64], marks: &mut [u64])
     visit(file, list, marks, 0, n);
     loop {
         sweep(file, list, marks);
-        if highest_below(marks, n) == 0 {
+        if highest_below(marks, n).is_none() {
             break;
         }
     }
 }
 
 // Raises the masks in a list to the smallest closed family above them.
+#[tactic(auto, unfolding(netlist::specs::Layout::design_of))]
 pub fn raise(file: &[u8], list: &mut [u64])
     requires { Acceptance file.now (count_of file.now) × Fits (design_of file.now) list.old }
     ensures { list.new ≡ least_above (design_of file.now) list.old }
 {
     let mut marks: [u64; MARK_WORDS] = [0; MARK_WORDS];
-    settle(file, list, &mut marks[..MARK_WORDS]);
+    settle(file, list, &mut marks);
 }

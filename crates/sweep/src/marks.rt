@@ -30,19 +30,23 @@ pub fn unmark(marks: &mut [u64], i: usize)
     marks[at] = word ^ (bit_of(i) & word);
 }
 
-// One more than the highest marked record below i, or 0 where there is none. A word without marks is 64 records without them.
-pub fn highest_below(marks: &[u64], i: usize) -> usize
+// The highest marked record below i, if there is one. Of the word that has the mark of i, only the marks of lower records count. A word without
+// marks is 64 records without them.
+#[tactic(auto, using(crate::proofs::MarkLaws::first_none, crate::proofs::MarkLaws::first_in_range, crate::proofs::MarkLaws::next_none, crate::proofs::MarkLaws::next_found, crate::proofs::MarkLaws::next_in_range))]
+pub fn highest_below(marks: &[u64], i: usize) -> Option<usize>
     requires { i < 64 * length marks.now }
     ensures { Highest marks.now i result }
 {
-    let mut at = i / 64;
-    let mut word = cut_to(marks[at], (i % 64) as u64);
-    while word == 0 {
-        if at == 0 {
-            return 0;
-        }
-        at -= 1;
-        word = marks[at];
+    let last = i / 64;
+    let word = cut_to(marks[last], (i % 64) as u64);
+    if word != 0 {
+        return Some(64 * last + bit_length(word) as usize - 1);
     }
-    64 * at + bit_length(word) as usize
+    for at in (0..last).rev() {
+        let word = marks[at];
+        if word != 0 {
+            return Some(64 * at + bit_length(word) as usize - 1);
+        }
+    }
+    None
 }

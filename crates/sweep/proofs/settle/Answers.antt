@@ -2,16 +2,10 @@
 -- Assumes nothing.
 use mathlib.Core.Path.{refl}
 use native.Mathlib.Omega.{arith}
+use Rattle.std.proofs.Common.{rules}
 use Rattle.netlist.specs.Layout.{design_of}
-use Rattle.sweep.proofs.SweepLaws.{between_refl, between_trans, between_fits, uncared_less, all_visited, settled_all, reached}
+use Rattle.sweep.proofs.SweepLaws.{between_refl, between_trans, between_fits, uncared_less, added_some, all_visited, settled_all, reached}
 use Rattle.sweep.proofs.settle.Goals as goal
-
-pub visit-requires : goal.visit-requires
-unfolding design_of
-visit-requires c =
-    let p = c.requires in
-    let e = p.fits.size in
-    (p, omega arith, omega arith)
 
 pub loop-init : goal.loop-init
 unfolding design_of
@@ -27,22 +21,14 @@ loop-init c =
       all_visited d args.list.now _ args.marks.now _ p.fits.size v,
     )
 
-pub highest_below-requires : goal.highest_below-requires
-unfolding design_of
-highest_below-requires c =
-    let e = c.requires.fits.size in
-    let r = c.loop.invariant.0.room in
-    omega arith
-
 pub loop-smaller : goal.loop-smaller
 unfolding design_of
 loop-smaller c =
     let r = c.loop.invariant.0 in
     let w = c.sweep.ensures in
-    let g = c.highest_below.ensures in
-    let b = g.below in
     let e = c.requires.fits.size in
-    uncared_less (design_of c.args.file.now) r.accepted.sound _ _ r.fits w.between (w.added _ (omega arith) (omega arith) (g.marked (omega arith)))
+    uncared_less (design_of c.args.file.now) r.accepted.sound _ _ r.fits w.between
+    (added_some w (omega arith) c.highest_below.result (search rules) c.highest_below.ensures)
 
 pub loop-preserved : goal.loop-preserved
 unfolding design_of
@@ -63,6 +49,5 @@ returns c =
     let p = c.requires in
     let d = design_of c.args.file.now in
     let w = c.sweep.ensures in
-    let g = c.highest_below.ensures in
     reached d p.accepted.sound _ p.fits _ (between_trans d _ _ _ c.visit.ensures.between (between_trans d _ _ _ c.loop.invariant.1 w.between))
-    (settled_all d w (λ i h. g.none i (omega arith) (let e = p.fits.size in omega arith)))
+    (settled_all w p.fits.size c.highest_below.result (search rules) c.highest_below.ensures)

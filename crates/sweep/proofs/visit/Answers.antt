@@ -63,12 +63,6 @@ module _ (d : Design) (s : Sound d) (low j high D : ℕ) (before masks marks cur
         (subst (λ (m : List ℕ). Granted (asked d.at i (mask_at masks i)) (mask_at m)) (sym g) (grant_granted (asked d.at i (mask_at masks i)) masks named))
         (noted_higher t.notes m)
 
-pub bounds-list-i : goal.bounds-list-i
-unfolding design_of
-bounds-list-i c =
-    let e = c.loop-i.invariant.3.between.size in
-    omega arith
-
 pub join_all-requires : goal.join_all-requires
 unfolding design_of
 join_all-requires c =
@@ -76,9 +70,9 @@ join_all-requires c =
     let loop = c.loop-i in
     let v = loop.invariant in
     let n =
-    asks_named (design_of c.args.file.now) p.0.accepted.sound _ loop.i _ _ _ loop.list _ _ p.0.fits c.loop-i-test.true (omega arith) v.3
+    asks_named (design_of c.args.file.now) p.0.accepted.sound _ loop.i _ _ _ loop.list _ _ p.0.fits (omega arith) (omega arith) v
     c.demand_at-d.ensures _ c.asked-asks.ensures in
-    let e = v.3.between.size in
+    let e = v.between.size in
     (n, omega arith)
 
 pub loop-i-preserved-then-d-ne0 : goal.loop-i-preserved-then-d-ne0
@@ -86,23 +80,13 @@ unfolding design_of
 loop-i-preserved-then-d-ne0 c =
     let p = c.requires in
     let loop = c.loop-i in
-    let v = loop.invariant in (
-      omega arith,
-      omega arith,
-      omega arith,
-      turn (design_of c.args.file.now) p.0.accepted.sound _ loop.i _ _ _ loop.list _ _ p.0.fits c.loop-i-test.true (omega arith) v.3
-          c.demand_at-d.ensures _ c.asked-asks.ensures _ _ c.join_all.ensures (omega arith),
-    )
+    turn (design_of c.args.file.now) p.0.accepted.sound _ loop.i _ _ _ loop.list _ _ p.0.fits (omega arith) (omega arith) loop.invariant
+    c.demand_at-d.ensures _ c.asked-asks.ensures _ _ c.join_all.ensures (omega arith)
 
 pub loop-i-preserved : goal.loop-i-preserved
 unfolding design_of
 loop-i-preserved c =
     let p = c.requires in
     let loop = c.loop-i in
-    let v = loop.invariant in (
-      omega arith,
-      omega arith,
-      v.2,
-      passed_by (design_of c.args.file.now) p.0.accepted.sound _ loop.i _ _ _ loop.list _ _ p.0.fits c.loop-i-test.true (omega arith) v.3
-          c.demand_at-d.ensures (omega arith),
-    )
+    passed_by (design_of c.args.file.now) p.0.accepted.sound _ loop.i _ _ _ loop.list _ _ p.0.fits (omega arith) (omega arith) loop.invariant
+    c.demand_at-d.ensures (omega arith)

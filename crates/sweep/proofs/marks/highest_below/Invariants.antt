@@ -1,10 +1,8 @@
 -- `sweep::marks::highest_below` meets its contract: words without marks are passed by, and the length of the first one with marks is known.
 -- Assumes nothing.
-use Rattle.sweep.proofs.MarkLaws.{Scanned}
+use Prim.Native.Nat.{◌*◌}
+use Rattle.sweep.specs.Marks.{NoneMarked}
 use Rattle.sweep.proofs.marks.highest_below.Given as goal
 
-abbrev pub invariant-loop-word : goal.invariant-loop-word
-invariant-loop-word l = Scanned l.marks l.i l.at l.word
-
-abbrev pub decreases-loop-word : goal.decreases-loop-word
-decreases-loop-word l = l.at
+abbrev pub invariant-loop-at : goal.invariant-loop-at
+invariant-loop-at l = NoneMarked l.marks (64 * l.at) l.i
