@@ -74,8 +74,8 @@ module _ (d e : Design) (masks : List ℕ) (f : Follows d e (mask_at masks)) whe
         → Agree (D i) (put_word role (words i) (word_at board i)) (put_word role (words' i) (word_at board' i))
     by_role i h Input q held = agree_within (meet_left (mask_at masks i) (d.at i).keep) (inputs i h q)
     by_role i h (Register a k) q held = tied.each i a k h q
-    by_role i h Output q held = absurd (let z : ◌≡◌ {A = ℕ} 0 1 = cc in omega arith)
-    by_role i h Gate q held = absurd (let z : ◌≡◌ {A = ℕ} 0 1 = cc in omega arith)
+    by_role i h Output q held = cc
+    by_role i h Gate q held = cc
 
     pub held_agree : (i : ℕ) → i < d.count → is_held (role_at d i) ≡ true
         → Agree (D i) (word_at (with_inputs d words board) i) (word_at (with_inputs e words' board') i)

@@ -18,7 +18,7 @@ pub record CycledFrom {L : Type 0} (machine : Machine L) (board : L) (c : Cycle 
 module _ {L : Type 0} (machine : Machine L) where
   abbrev pub Chain : L → List (Step L) → Type 0
   Chain board [] = Unit {0}
-  Chain board (started ∷ steps) = ((machine.start board).answer ≡ (Ok tt)) × Chain (machine.start board).board steps
+  Chain board (started ∷ steps) = ((machine.start board).answer ≡ Ok tt) × Chain (machine.start board).board steps
   Chain board (cycled c ∷ steps) =
       (s : CycledFrom machine board c) × Chain (machine.cycle s.call c.words board s.next).next steps
 

@@ -47,8 +47,8 @@ module _ (file : List ℕ) (n : ℕ) (a : check_of file ≡ Ok n) where
       (starts_at_new d sound masks (masks_least d sound).closed (blanked_sound d sound masks) e sound' (holds_part file n a))
 
   -- two accepted cycles
-  module _ (words words' : ℕ → ℕ) (board next board' next' : List ℕ) (s : (cycle_call file (with_inputs (design_of file) words board) next).answer ≡ (Ok tt))
-      (s' : (cycle_call (compacted file) (with_inputs (design_of (compacted file)) words' board') next').answer ≡ (Ok tt))
+  module _ (words words' : ℕ → ℕ) (board next board' next' : List ℕ) (s : (cycle_call file (with_inputs (design_of file) words board) next).answer ≡ Ok tt)
+      (s' : (cycle_call (compacted file) (with_inputs (design_of (compacted file)) words' board') next').answer ≡ Ok tt)
       (tied : TiedAtNew (design_of file) (masks_of (design_of file)) board board') (pins : pin_words (design_of file) words ≡ pin_words (design_of (compacted file)) words') where
     size : length board ≡ d.count
     unfolding design_of

@@ -52,10 +52,10 @@ module _ {L L' : Type 0} {machine : Machine L} {machine' : Machine L'} {Tied : L
   pub chains_close : (first : List (Step L)) (second : List (Step L')) (board : L) (board' : L') → Chain machine board first → Chain machine' board' second
       → kinds_of first ≡ kinds_of second → Tied board board' → AlikeCycles first second → CloseCycles first second
   unfolding kinds_of cycles_of
-  chains_close [] second board board' x y kinds tied alike = λ j c c' e e'. absurd (let z : ◌≡◌ {A = ℕ} 0 1 = cc in omega arith)
+  chains_close [] second board board' x y kinds tied alike = λ j c c' e e'. cc
   chains_close (step ∷ first) [] board board' x y kinds tied alike = absurd (let q = ap length kinds in omega arith)
-  chains_close (started ∷ first) (cycled c ∷ second) board board' x y kinds tied alike = absurd (let z : ◌≡◌ {A = ℕ} 0 1 = cc in omega arith)
-  chains_close (cycled c ∷ first) (started ∷ second) board board' x y kinds tied alike = absurd (let z : ◌≡◌ {A = ℕ} 0 1 = cc in omega arith)
+  chains_close (started ∷ first) (cycled c ∷ second) board board' x y kinds tied alike = cc
+  chains_close (cycled c ∷ first) (started ∷ second) board board' x y kinds tied alike = cc
   chains_close (started ∷ first) (started ∷ second) board board' x y kinds tied alike =
       chains_close first second (machine.start board).board (machine'.start board').board x.1 y.1 (ap (drop 1) kinds)
       (s.starts board board' x.0 y.0) alike
@@ -77,9 +77,9 @@ module _ {L L' : Type 0} {machine : Machine L} {machine' : Machine L'} {Tied : L
       → Chain machine' board' second → kinds_of first ≡ false ∷ later → kinds_of first ≡ kinds_of second → AlikeCycles first second → CloseCycles first second
   unfolding kinds_of cycles_of
   from_start [] second later board board' x y begins kinds alike = absurd (let q = ap length begins in omega arith)
-  from_start (cycled c ∷ first) second later board board' x y begins kinds alike = absurd (let z : ◌≡◌ {A = ℕ} 0 1 = cc in omega arith)
+  from_start (cycled c ∷ first) second later board board' x y begins kinds alike = cc
   from_start (started ∷ first) [] later board board' x y begins kinds alike = absurd (let q = ap length kinds in omega arith)
-  from_start (started ∷ first) (cycled c ∷ second) later board board' x y begins kinds alike = absurd (let z : ◌≡◌ {A = ℕ} 0 1 = cc in omega arith)
+  from_start (started ∷ first) (cycled c ∷ second) later board board' x y begins kinds alike = cc
   from_start (started ∷ first) (started ∷ second) later board board' x y begins kinds alike =
       chains_close first second _ _ x.1 y.1 (ap (drop 1) kinds) (s.starts board board' x.0 y.0) alike
 

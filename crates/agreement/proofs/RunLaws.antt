@@ -55,6 +55,6 @@ as_many [] [] e = refl
 as_many [] (step ∷ second) e = absurd (let q = ap length e in omega arith)
 as_many (step ∷ first) [] e = absurd (let q = ap length e in omega arith)
 as_many (started ∷ first) (started ∷ second) e = as_many first second (ap (drop 1) e)
-as_many (started ∷ first) (cycled c ∷ second) e = absurd (let z : ◌≡◌ {A = ℕ} 0 1 = cc in omega arith)
-as_many (cycled c ∷ first) (started ∷ second) e = absurd (let z : ◌≡◌ {A = ℕ} 0 1 = cc in omega arith)
+as_many (started ∷ first) (cycled c ∷ second) e = cc
+as_many (cycled c ∷ first) (started ∷ second) e = cc
 as_many (cycled c ∷ first) (cycled c' ∷ second) e = ap suc (as_many first second (ap (drop 1) e))

@@ -46,8 +46,8 @@ module _ (file file' masks : List ℕ) (sound : Sound (design_of file)) (seed : 
 
   -- two accepted cycles
   module _ (j : ℕ) (words words' : ℕ → ℕ) (board next board' next' : List ℕ)
-      (s : (cycle_with unchanged file (with_inputs (design_of file) words board) next).answer ≡ (Ok tt))
-      (s' : (cycle_with (change j) file' (with_inputs (design_of file') words' board') next').answer ≡ (Ok tt))
+      (s : (cycle_with unchanged file (with_inputs (design_of file) words board) next).answer ≡ Ok tt)
+      (s' : (cycle_with (change j) file' (with_inputs (design_of file') words' board') next').answer ≡ Ok tt)
       (tied : Tied (design_of file) masks board board') (inputs : AtInputs (design_of file) masks words words') where
     abbrev put : List ℕ
     put = with_inputs d words board

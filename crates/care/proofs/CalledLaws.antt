@@ -61,7 +61,7 @@ module _ (r : ℕ) (M N : ℕ → ℕ) where
 -- where a record is not faulty, neither test finds something
 neither : (a b : Bool) → (a || b) ≡ false → (a ≡ false) × (b ≡ false)
 neither false b e = (refl, e)
-neither true b e = absurd (let z : ◌≡◌ {A = ℕ} 0 1 = cc in omega arith)
+neither true b e = cc
 
 module _ (d : Design) (s : Sound d) (seed : ℕ → ℕ) (masks : List ℕ) where
   abbrev called : ℕ → ℕ

@@ -4,7 +4,6 @@ use mathlib.Core.Path.{◌≡◌, refl, sym, subst}
 use mathlib.Core.Bool.{Bool, true, false, cond}
 use mathlib.Core.List.{List}
 use Prim.Native.Nat.{ℕ}
-use native.Mathlib.Omega.{arith}
 use lib.Dec.{eqb}
 use lib.ListN.{length}
 use Rattle.std.specs.Prelude.{Result, Ok, Err}
@@ -48,5 +47,5 @@ untouched size (Ok n) t masks list r e = go (eqb (length list) (size n)) e
     done = record { answer = Ok t; list = masks }
 
     go : (b : Bool) → (cond b done (refuse (refused BadList 0) list)).answer ≡ Err r → (cond b done (refuse (refused BadList 0) list)).list ≡ list
-    go true e = absurd (let z : ◌≡◌ {A = ℕ} 0 1 = cc in omega arith)
+    go true e = cc
     go false e = refl

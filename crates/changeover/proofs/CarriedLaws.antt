@@ -40,8 +40,8 @@ pub input_whole : (mask word : ℕ) → carried_word Input mask word ≡ word
 input_whole mask word = refl
 
 pub not_held : (role : Role) (mask word : ℕ) → is_held role ≡ false → carried_word role mask word ≡ 0
-not_held Input mask word n = absurd (let z : ◌≡◌ {A = ℕ} 0 1 = cc in omega arith)
-not_held (Register a k) mask word n = absurd (let z : ◌≡◌ {A = ℕ} 0 1 = cc in omega arith)
+not_held Input mask word n = cc
+not_held (Register a k) mask word n = cc
 not_held Output mask word n = refl
 not_held Gate mask word n = refl
 
@@ -64,9 +64,9 @@ module _ (d : Design) (masks : List ℕ) (i : ℕ) where
     carried_blank b = rw (blank_role b) refl
 
     was_blank : (role : Role) → mask_at masks i ≡ 0 → is_port role ≡ false → carried_word role (mask_at masks i) (word_at board i) ≡ 0
-    was_blank Input m p = absurd (let z : ◌≡◌ {A = ℕ} 0 1 = cc in omega arith)
+    was_blank Input m p = cc
     was_blank (Register a k) m p = ap (bit_and (word_at board i)) m ∙ and_zero_r (word_at board i)
-    was_blank Output m p = absurd (let z : ◌≡◌ {A = ℕ} 0 1 = cc in omega arith)
+    was_blank Output m p = cc
     was_blank Gate m p = refl
 
     -- so it is all one whether the role is that of before or after

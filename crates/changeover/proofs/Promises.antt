@@ -72,7 +72,7 @@ module _ (file list board new : List ℕ) where
 
 -- ---- what it leaves
 
-module _ (file list board new : List ℕ) (e : (change_over_call file list board new).answer ≡ (Ok tt)) where
+module _ (file list board new : List ℕ) (e : (change_over_call file list board new).answer ≡ Ok tt) where
   abbrev d : Design
   d = design_of file
 

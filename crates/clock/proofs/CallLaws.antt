@@ -53,7 +53,7 @@ module _ (d : Design) (board : List ℕ) where
   pub clear_words : ((i : ℕ) → i < d.count → is_wide d board i ≡ false) → words_answer d board ≡ Ok tt
   unfolding words_answer
   clear_words clear =
-      lowest_cases (is_wide d board) (λ i. Err (refused WideWord i)) (Ok tt) d.count (λ a. a ≡ (Ok tt)) (λ i h p c. not_both p (clear i h)) (λ c. refl)
+      lowest_cases (is_wide d board) (λ i. Err (refused WideWord i)) (Ok tt) d.count (λ a. a ≡ Ok tt) (λ i h p c. not_both p (clear i h)) (λ c. refl)
 
 -- ---- what a call comes to, by its answer
 

@@ -4,7 +4,6 @@ use mathlib.Core.Path.{◌≡◌, refl, sym, ap, subst, ◌∙◌}
 use mathlib.Core.Bool.{Bool, true, false, cond}
 use mathlib.Core.List.{List}
 use Prim.Native.Nat.{ℕ, ◌^◌, ◌<◌}
-use native.Mathlib.Omega.{arith}
 use lib.ListN.{length, set}
 use Rattle.std.specs.Prelude.{Result, Ok, Err, is_ok}
 use Rattle.endian.specs.Lists.{word_at}
@@ -31,16 +30,16 @@ pub record Passed (c : Result ℕ Refused) (fit : ℕ → Bool) (rest : Result (
 
 pub passed : (c : Result ℕ Refused) (fit : ℕ → Bool) (rest : Result (Unit {0}) Refused) → answer_after c fit rest ≡ Ok tt → Passed c fit rest
 unfolding answer_after
-passed (Err r) fit rest e = absurd (let z : ◌≡◌ {A = ℕ} 0 1 = cc in omega arith)
+passed (Err r) fit rest e = cc
 passed (Ok n) fit rest e = go (fit n) refl e
   where
     go : (b : Bool) → fit n ≡ b → cond b rest (Err (refused BadList 0)) ≡ Ok tt → Passed (Ok n) fit rest
     go true q e = record { count = n; checked = refl; room = q; clear = e }
-    go false q e = absurd (let z : ◌≡◌ {A = ℕ} 0 1 = cc in omega arith)
+    go false q e = cc
 
 -- ---- start
 
-module _ (file board : List ℕ) (e : (start_call file board).answer ≡ (Ok tt)) where
+module _ (file board : List ℕ) (e : (start_call file board).answer ≡ Ok tt) where
   pub start_left : (start_call file board).board ≡ start_of (design_of file)
   unfolding start_call
   start_left = ap (λ (c : Result (Unit {0}) Refused). leaves (is_ok c) (start_of (design_of file)) board) e
@@ -64,7 +63,7 @@ start_refused file board r e = ap (λ (c : Result (Unit {0}) Refused). leaves (i
 -- ---- cycle
 
 -- what an accepted cycle leaves, also where values are changed
-module _ (change : ℕ → ℕ → ℕ) (file board next : List ℕ) (e : (cycle_with change file board next).answer ≡ (Ok tt)) where
+module _ (change : ℕ → ℕ → ℕ) (file board next : List ℕ) (e : (cycle_with change file board next).answer ≡ Ok tt) where
   pub values_left : (cycle_with change file board next).board ≡ values_of (design_of file) change board
   unfolding cycle_with
   values_left = ap (λ (c : Result (Unit {0}) Refused). leaves (is_ok c) (values_of (design_of file) change board) board) e
@@ -90,7 +89,7 @@ module _ (change : ℕ → ℕ → ℕ) (file board next : List ℕ) (e : (cycle
       ∙ next_passes (design_of file) cycle_sound i h (values_of (design_of file) change board)
       (λ j g. values_narrow (design_of file) cycle_sound change board board_length j g (narrow j))
 
-module _ (file board next : List ℕ) (e : (cycle_call file board next).answer ≡ (Ok tt)) where
+module _ (file board next : List ℕ) (e : (cycle_call file board next).answer ≡ Ok tt) where
   abbrev left : (cycle_call file board next).board ≡ plain_values (design_of file) board
   left = values_left unchanged file board next e
 

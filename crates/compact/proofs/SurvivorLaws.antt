@@ -46,13 +46,13 @@ no_output role e = by_test (is_output role) (λ o. not_both (output_port role o)
 -- a test that fails as a whole though its first part passes
 second_fails : (a b : Bool) → (a && not b) ≡ false → a ≡ true → b ≡ true
 second_fails true true e t = refl
-second_fails true false e t = absurd (let z : ◌≡◌ {A = ℕ} 0 1 = cc in omega arith)
-second_fails false b e t = absurd (let z : ◌≡◌ {A = ℕ} 0 1 = cc in omega arith)
+second_fails true false e t = cc
+second_fails false b e t = cc
 
 both_pass : (a b : Bool) → (a && not b) ≡ true → (a ≡ true) × (b ≡ false)
-both_pass true true e = absurd (let z : ◌≡◌ {A = ℕ} 0 1 = cc in omega arith)
+both_pass true true e = cc
 both_pass true false e = (refl, refl)
-both_pass false b e = absurd (let z : ◌≡◌ {A = ℕ} 0 1 = cc in omega arith)
+both_pass false b e = cc
 
 module _ (d : Design) (masks : List ℕ) (i : ℕ) where
   -- a blank has mask 0 and is no port; a port is no blank
@@ -106,7 +106,7 @@ module _ (d : Design) (n j : ℕ) where
   pub named_only : {P : Type 0} → ((i : ℕ) → i < n → names (d.at i).kind j ≡ true → P) → is_named d n j ≡ true → P
   named_only {P} here =
       lowest_cases (λ k. names (d.at k).kind j) _ _ n (λ b. b ≡ true → P) (λ k g p c e. here k g p)
-      (λ clear e. absurd (let z : ◌≡◌ {A = ℕ} 0 1 = cc in omega arith))
+      (λ clear e. cc)
 
 -- ---- the sentences of #107 are so of the survivors
 
@@ -199,7 +199,7 @@ module _ (d : Design) (masks : List ℕ) (least : Least d (output_seed d) (mask_
       by_blank : (i : ℕ) → i < d.count → names ((blanked d masks).at i).kind j ≡ true → set j ≡ true
       by_blank i g e =
           by_test (is_blank d masks i)
-          (λ b. absurd (let q = blank_operands d masks i b in let z : ◌≡◌ {A = ℕ} 0 1 = cc in omega arith))
+          (λ b. (let q = blank_operands d masks i b in cc))
           (λ b. all.named i j g (stays_in i g b) b (sym (ap (λ (k : Kind). names k j) (stays_kind d masks i b)) ∙ e))
 
 pub survivors : (d : Design) (masks : List ℕ) → Least d (output_seed d) (mask_at masks) → Survivors d masks (survives d masks)

@@ -156,7 +156,7 @@ module _ (d : Design) (masks : List ℕ) (j : ℕ) where
   one_survives : (i : ℕ) → i < d.count → is_in j (kept_by d masks i) ≡ true → survives d masks j ≡ true
   one_survives i h e =
       by_test (is_blank d masks i)
-      (λ b. absurd (let q = kept_none d masks i b in let z : ◌≡◌ {A = ℕ} 0 1 = cc in omega arith))
+      (λ b. (let q = kept_none d masks i b in cc))
       (λ b. own_or_named b (subst (λ (js : List ℕ). is_in j js ≡ true) (kept_some d masks i b) e))
     where
       own_or_named : is_blank d masks i ≡ false → (eqb i j || names (d.at i).kind j) ≡ true → survives d masks j ≡ true
@@ -167,7 +167,7 @@ module _ (d : Design) (masks : List ℕ) (j : ℕ) where
 
   all_survive : (n : ℕ) → n ≤ d.count → kept_to d masks n j ≡ true → survives d masks j ≡ true
   unfolding kept_to
-  all_survive zero h e = absurd (let z : ◌≡◌ {A = ℕ} 0 1 = cc in omega arith)
+  all_survive zero h e = cc
   all_survive (suc n) h e =
       let before = all_survive n (omega arith) in
       by_test (kept_to d masks n j) before (λ f. one_survives n (omega arith) (second f e))
@@ -186,7 +186,7 @@ module _ (d : Design) (masks : List ℕ) (j : ℕ) where
       named : (i : ℕ) → i < d.count → names ((blanked d masks).at i).kind j ≡ true → kept_to d masks d.count j ≡ true
       named i g e =
           by_test (is_blank d masks i)
-          (λ b. absurd (let q = blank_operands d masks i b in let z : ◌≡◌ {A = ℕ} 0 1 = cc in omega arith))
+          (λ b. (let q = blank_operands d masks i b in cc))
           (λ b. kept_for i g b (or_right (eqb i j) (sym (ap (λ (k : Kind). names k j) (stays_kind d masks i b)) ∙ e)))
 
   kept_all : j < d.count → kept_to d masks d.count j ≡ survives d masks j

@@ -9,7 +9,7 @@ use native.Mathlib.Omega.{arith}
 use Rattle.netlist.specs.Lowest.{lowest_from, lowest}
 
 pub not_both : {b : Bool} {P : Type 0} → b ≡ true → b ≡ false → P
-not_both e f = absurd (let z : ◌≡◌ {A = ℕ} 0 1 = cc in omega arith)
+not_both e f = cc
 
 -- a test picks no number below n
 abbrev pub Clear : (ℕ → Bool) → ℕ → Type 0

@@ -3,22 +3,21 @@
 use mathlib.Core.Path.{◌≡◌, refl}
 use mathlib.Core.Bool.{true}
 use Prim.Native.Nat.{ℕ}
-use native.Mathlib.Omega.{arith}
 use Rattle.netlist.specs.Kinds.{is_input, is_output, is_held}
 use Rattle.netlist.specs.declared.record.Role.{Role}
 use Rattle.netlist.specs.declared.record.Role.TheVariants.{Input, Register, Output, Gate}
 
 pub input_role : (role : Role) → is_input role ≡ true → role ≡ Input
 input_role Input e = refl
-input_role (Register a k) e = absurd (let z : ◌≡◌ {A = ℕ} 0 1 = cc in omega arith)
-input_role Output e = absurd (let z : ◌≡◌ {A = ℕ} 0 1 = cc in omega arith)
-input_role Gate e = absurd (let z : ◌≡◌ {A = ℕ} 0 1 = cc in omega arith)
+input_role (Register a k) e = cc
+input_role Output e = cc
+input_role Gate e = cc
 
 pub output_role : (role : Role) → is_output role ≡ true → role ≡ Output
-output_role Input e = absurd (let z : ◌≡◌ {A = ℕ} 0 1 = cc in omega arith)
-output_role (Register a k) e = absurd (let z : ◌≡◌ {A = ℕ} 0 1 = cc in omega arith)
+output_role Input e = cc
+output_role (Register a k) e = cc
 output_role Output e = refl
-output_role Gate e = absurd (let z : ◌≡◌ {A = ℕ} 0 1 = cc in omega arith)
+output_role Gate e = cc
 
 abbrev pub new_role : (ℕ → ℕ) → Role → Role
 new_role new Input = Input

@@ -25,7 +25,7 @@ use Rattle.rules.proofs.CheckLaws.{Kept, pass_kept, kept_pass}
 past_refusal : (i n : ℕ) (v : Result (Unit {0}) Refusal) (next : Result ℕ Refused) → refuse_at i v next ≡ Ok n → (v ≡ Ok tt) × (next ≡ Ok n)
 unfolding refuse_at
 past_refusal i n (Ok kept) next e = (refl, e)
-past_refusal i n (Err r) next e = absurd (let z : ◌≡◌ {A = ℕ} 0 1 = cc in omega arith)
+past_refusal i n (Err r) next e = cc
 
 -- of the records from i on, the i-th or one of the later ones
 this_or_later : (file : List ℕ) (i j : ℕ) → Kept (record_rules file i) → (i < j → Kept (record_rules file j)) → (i ≡ j) ⊎ (i < j) → Kept (record_rules file j)
@@ -154,7 +154,7 @@ at_of (Err r) = r.at
 -- a refusal names a record below the limit of records
 refused_record : (file : List ℕ) (r : Refused) (left i : ℕ) → check_from file left i ≡ Err r → r.at < i + left
 unfolding check_from refuse_at
-refused_record file r zero i e = absurd (let z : ◌≡◌ {A = ℕ} 0 1 = cc in omega arith)
+refused_record file r zero i e = cc
 refused_record file r (suc left) i e = go (first_broken (record_rules file i)) e (refused_record file r left (suc i))
   where
     go : (v : Result (Unit {0}) Refusal) → refuse_at i v (check_from file left (suc i)) ≡ Err r → (check_from file left (suc i) ≡ Err r → r.at < suc i + left) → r.at < i + suc left

@@ -59,7 +59,7 @@ pass_kept (e ∷ es) p = go (test_all e.1) refl p (pass_kept es)
   where
     go : (t : Bool) → test_all e.1 ≡ t → cond t (first_broken es) (Err e.0) ≡ Ok tt → (first_broken es ≡ Ok tt → Kept es) → Kept (e ∷ es)
     go true q p rest = (tests_hold e.1 q, rest p)
-    go false q p rest = absurd (let z : ◌≡◌ {A = ℕ} 0 1 = cc in omega arith)
+    go false q p rest = cc
 
 pub kept_pass : (es : List (Refusal × List Rule)) → Kept es → Ok tt ≡ first_broken es
 kept_pass [] k = none_broken
