@@ -62,7 +62,8 @@ fn report(rt: &impl Print, file: &[u8]) -> io::Result<()> {
     }
 }
 
-// Fills the buffer from its front: how many bytes were read. A read that fails counts as the end of the input.
+// Fills the buffer from its front: how many bytes were read. A read that fails counts as the end of the input. The loop counts bytes by hand, since
+// a read may give fewer than there is room for.
 fn read_full(input: &mut impl Read, buffer: &mut [u8]) -> usize
     ensures { result ≤ length buffer.new }
 {

@@ -52,6 +52,7 @@ pub fn width_at(file: &[u8], i: usize) -> u64
     u64::from(file[at])
 }
 
+// std has no `From` from u64 to usize, here and elsewhere.
 pub fn fields_at(file: &[u8], i: usize) -> Fields
     requires { record_start i + record_size ≤ length file.now }
     ensures { result ≡ fields_at file.now i }

@@ -56,7 +56,8 @@ pub struct Record {
 }
 
 // What a kind uses: the number of its operands, the four fields with 0 where it has no use for one, the k that has to fit
-// the width (0 where there is none), and its role.
+// the width (0 where there is none), and its role. The count stands beside the operands, and no enum in their place, since the check reads all three
+// without a test.
 #[derive(Clone, Copy)]
 pub struct Uses {
     pub count: usize,
@@ -78,7 +79,7 @@ impl Record {
 
     pub const MAX_MULTIPLIER_WIDTH: u64 = 32;
 
-    // Numbers of kinds that the code tests. Those below the register have no operand. Those below the concat have one, and so have the
+    // Numbers of kinds that the code tests as numbers, since a jump by the kind made the check half as slow again as plain C. Those below the register have no operand. Those below the concat have one, and so have the
     // shifts, which end before the signed below. Of the others only the mux has three.
     pub const CONSTANT: u64 = 1;
 
@@ -110,7 +111,7 @@ impl Record {
 }
 
 impl Kind {
-    // The kind with a number, carrying the fields that it uses.
+    // The kind with a number, carrying the fields that it uses. It is no `TryFrom`: `kind_of` gives every number a kind.
     pub fn new(code: u64, fields: Fields) -> Kind
         ensures { result ≡ kind_of code fields }
     {

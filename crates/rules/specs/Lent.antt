@@ -1,5 +1,5 @@
 -- What the code below the operations asks of its callers: an accepted file, and a list with a word for each of its records. No public promise mentions it.
--- Assumes nothing.
+-- A type of accepted files would say one of the three facts, and a clause would have to reach through it for the bytes. Assumes nothing.
 use Rattle.std.specs.Prelude.{◌≡◌, List, ℕ, ◌<◌, length}
 use Rattle.netlist.specs.Layout.{count_of}
 use Rattle.rules.specs.Sound.{Acceptance}
