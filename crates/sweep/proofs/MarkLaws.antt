@@ -7,9 +7,10 @@ use Prim.Native.Nat.{ℕ, zero, suc, ◌+◌, ◌-◌, ◌*◌, ◌/◌, ◌%◌
 use native.Mathlib.Nat.{mod-lt, mod-eq_of_lt, lt_of_lt_of_le}
 use native.Mathlib.Omega.{arith}
 use lib.Bits.{bit_or}
-use lib.ListN.{length, set}
+use lib.ListN.{length, set, replicate}
 use lib.Pow.{pow_pos, pow_mono}
 use lib.Seq.{get_or-set_same, get_or-set_other}
+use Rattle.std.proofs.lemmas.List.{get_or-replicate, get_or_past, length-replicate}
 use Rattle.endian.specs.Lists.{word_at}
 use Rattle.bits.specs.Masks.{bit, without}
 use Rattle.bits.specs.Words.{cut, bit_length}
@@ -18,6 +19,15 @@ use Rattle.bits.proofs.Digits.{bit_lt, bit_of_or, bit_without, bit_cut, bit_beyo
 use Rattle.bits.proofs.Shifts.{length_zero, length_le, length_one}
 use Rattle.care.proofs.Families.{same_or_not, below_or_not}
 use Rattle.sweep.specs.Marks.{mark_at, Put, NoneMarked, IsHighest}
+
+-- ---- words without marks
+
+pub none_marked : (n low i : ℕ) → NoneMarked (replicate n 0) low i
+none_marked n low i j l h = ap (λ (w : ℕ). bit w (j % 64)) (word (below_or_not (j / 64) n)) ∙ bit_beyond 0 (j % 64) (pow_pos 0) (omega arith)
+  where
+    word : (j / 64 < n) ⊎ (n ≤ j / 64) → word_at (replicate n 0) (j / 64) ≡ 0
+    word (inl l) = get_or-replicate n (j / 64) 0 0 l
+    word (inr l) = get_or_past (replicate n 0) (j / 64) 0 (rw (length-replicate {A = ℕ} n 0) l)
 
 -- ---- a mark that is set or cleared
 

@@ -1,6 +1,6 @@
 -- What the functions below `raise` promise to each other. No public promise mentions it.
 -- Assumes nothing.
-use Rattle.std.specs.Prelude.{◌≡◌, ◌≢◌, ◌⊎◌, List, ℕ, ◌*◌, ◌≤◌, ◌<◌, length}
+use Rattle.std.specs.Prelude.{◌≡◌, ◌≢◌, ◌⊎◌, List, ℕ, ◌≤◌, ◌<◌, length}
 use Rattle.bits.specs.Masks.{Within}
 use Rattle.netlist.specs.Layout.{Design, design_of, count_of}
 use Rattle.rules.specs.Sound.{Acceptance}
@@ -41,11 +41,10 @@ pub record Joins (low i : ℕ) (xs : List Ask) (before after marks noted : List 
   pub granted : after ≡ grant xs before
   pub notes : Noted low i before after marks noted
 
--- The file is accepted, a list has a mask within the width of each record, and there are marks for one number more than there are records.
-pub record Ready (file masks marks : List ℕ) : Type 0 where
+-- The file is accepted, and a list has a mask within the width of each record.
+pub record Ready (file masks : List ℕ) : Type 0 where
   pub accepted : Acceptance file (count_of file)
   pub fits : Fits (design_of file) masks
-  pub room : count_of file < 64 * length marks
 
 -- What a visit that began at record `high` - 1 and goes down to `low` has done when it stands at i: each record that it has visited is marked or
 -- settled, and so is each that was before, but for those that it still comes to. A new mark means that a bit was added.

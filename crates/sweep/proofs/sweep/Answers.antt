@@ -12,7 +12,7 @@ visit-requires c =
     let w = c.loop-i.invariant.1 in
     let h = c.in-Some.ensures.below in
     let f = between_fits (design_of c.args.file.now) p.accepted.sound _ _ p.fits w.between in
-    (record { accepted = p.accepted; fits = f; room = omega arith }, omega arith, omega arith)
+    (record { accepted = p.accepted; fits = f }, omega arith, omega arith)
 
 pub loop-i-preserved : goal.loop-i-preserved
 unfolding design_of
