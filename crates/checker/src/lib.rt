@@ -2,7 +2,7 @@
 // `check` asks nothing of its caller; the functions below it ask that the records lie within the file.
 #![tactic(auto)]
 
-ghost use Rattle.std.specs.Prelude.{◌≡◌, ◌≤◌, ◌<◌, length};
+ghost use Rattle.std.specs.Prelude.{◌≡◌, ◌≤◌, ◌<◌, cond, length, Ok, Err};
 ghost use Rattle.netlist.specs.Layout.{header_size, record_start, count_of};
 ghost use Rattle.netlist.specs.Rules.{test_all};
 ghost use Rattle.rules.specs.Check.{mark_rules, header_rules, record_rules, first_broken, check_from, check_of};
@@ -22,70 +22,48 @@ fn marked(file: &[u8]) -> bool
     file[0] == 0x50 && (file[1] == 0x43 && (file[2] == 0x4e && file[5] == 0))
 }
 
+// A rule that does not hold is the refusal.
+fn rule(holds: bool, refusal: Refusal) -> Result<(), Refusal>
+    ensures { result ≡ cond holds (Ok tt) (Err refusal) }
+{
+    if holds { Ok(()) } else { Err(refusal) }
+}
+
 // Rules 6 to 9, 15 and 10, for record i of n.
-#[tactic(auto, using(crate::proofs::VerdictLaws::kind_refused))]
+#[tactic(auto, using(crate::proofs::VerdictLaws::record_verdict))]
 fn check_record(file: &[u8], n: usize, i: usize) -> Result<(), Refusal>
     requires { (n ≡ count_of file.now) × (record_start n ≤ length file.now) × (i < n) }
     ensures { result ≡ first_broken (record_rules file.now i) }
 {
     let code = code_at(file, i);
-    if Record::KINDS <= code {
-        return Err(Refusal::BadKind);
-    }
+    rule(code < Record::KINDS, Refusal::BadKind)?;
     let w = width_at(file, i);
-    if !width_in_range(w) {
-        return Err(Refusal::BadWidth);
-    }
-    let fields = fields_at(file, i);
-    let uses = Uses::new(code, fields);
-    let role = uses.role;
-    if !operands_fit(file, operand_limit(role, n, i), uses) {
-        return Err(Refusal::BadOperand);
-    }
-    if !widths_fit(
-        code,
-        fields,
-        w,
-        width_at(file, uses.a),
-        width_at(file, uses.b),
-        width_at(file, uses.c),
-    ) {
-        return Err(Refusal::BadWidthRule);
-    }
-    if !multiplier_fits(code, w) {
-        return Err(Refusal::WideMultiplier);
-    }
-    if !fields_fit(fields, uses) {
-        return Err(Refusal::UnusedBit);
-    }
-    if !words_fit(keep_at(file, i), uses.word, w) {
-        return Err(Refusal::UnusedBit);
-    }
-    Ok(())
+    rule(width_in_range(w), Refusal::BadWidth)?;
+    let f = fields_at(file, i);
+    let uses = Uses::new(code, f);
+    let limit = operand_limit(uses.role, n, i);
+    rule(operands_fit(file, limit, uses), Refusal::BadOperand)?;
+    let wa = width_at(file, uses.a);
+    let wb = width_at(file, uses.b);
+    let wc = width_at(file, uses.c);
+    rule(widths_fit(code, f, w, wa, wb, wc), Refusal::BadWidthRule)?;
+    rule(multiplier_fits(code, w), Refusal::WideMultiplier)?;
+    rule(fields_fit(f, uses), Refusal::UnusedBit)?;
+    let keep = keep_at(file, i);
+    rule(words_fit(keep, uses.word, w), Refusal::UnusedBit)
 }
 
 // Rules 1 to 5.
-#[tactic(auto, using(crate::proofs::VerdictLaws::version_refused, crate::proofs::VerdictLaws::many_refused))]
+#[tactic(auto, using(crate::proofs::VerdictLaws::header_verdict))]
 fn check_header(file: &[u8]) -> Result<(), Refusal>
     ensures { result ≡ first_broken (header_rules file.now) }
 {
-    if file.len() < HEADER {
-        return Err(Refusal::TooShort);
-    }
-    if !marked(file) {
-        return Err(Refusal::BadMark);
-    }
-    if version(file) != 1 {
-        return Err(Refusal::BadVersion);
-    }
+    rule(HEADER <= file.len(), Refusal::TooShort)?;
+    rule(marked(file), Refusal::BadMark)?;
+    rule(version(file) == 1, Refusal::BadVersion)?;
     let n = record_count(file);
-    if Record::MAX_COUNT < n {
-        return Err(Refusal::TooManyRecords);
-    }
-    if file.len() != record_start(n) {
-        return Err(Refusal::BadLength);
-    }
-    Ok(())
+    rule(n <= Record::MAX_COUNT, Refusal::TooManyRecords)?;
+    rule(file.len() == record_start(n), Refusal::BadLength)
 }
 
 // The records in rising order.
