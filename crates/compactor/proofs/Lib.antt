@@ -1,7 +1,6 @@
--- The laws that the proofs of this crate cite: marks and numbers of survivors, the bytes of a survivor, the file as it is being written, and what is asked of a caller.
+-- The laws that the proofs of this crate cite: marks and numbers of survivors, the bytes of a survivor, and the file as it is being written.
 -- Assumes nothing.
 pub mod MarkLaws
 pub mod NumberLaws
 pub mod RecordBytes
 pub mod WriteLaws
-pub mod ReadyLaws

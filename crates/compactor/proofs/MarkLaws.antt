@@ -21,7 +21,9 @@ use Rattle.netlist.specs.declared.record.Kind.{Kind}
 use Rattle.netlist.specs.declared.record.Uses.{Uses}
 use Rattle.netlist.proofs.LowestLaws.{not_both}
 use Rattle.netlist.proofs.Tests.{by_test}
-use Rattle.rules.specs.Sound.{Acceptance}
+use Rattle.netlist.specs.Limits.{max_count}
+use Rattle.rules.specs.Lent.{LentAt}
+use Rattle.rules.proofs.Acceptance.{few}
 use Rattle.rules.proofs.SoundLaws.{OperandsBelow, operands_below}
 use Rattle.compact.specs.Survivors.{is_blank, blanked, is_named, survives}
 use Rattle.compact.proofs.SurvivorLaws.{stays_kind, stays_survives, blank_operands, named_only, surviving}
@@ -82,8 +84,8 @@ or_below : (b : Bool) {x own n : ℕ} → x < n → own < n → cond b x own < n
 or_below true h g = h
 or_below false h g = g
 
--- the places that a record of an accepted file marks lie within a list of n words
-module _ (file : List ℕ) (i : ℕ) (a : Acceptance file (count_of file)) (h : i < count_of file) {code : ℕ} {f : Fields} (u : Uses)
+-- the places that a record marks lie within a list with a word for each record of an accepted file
+module _ {file numbers : List ℕ} {i : ℕ} (lent : LentAt file numbers i) {code : ℕ} {f : Fields} {u : Uses}
     (e : u ≡ uses_of (kind_of code f)) (p : code ≡ code_at file i) (q : f ≡ fields_at file i) where
   pub uses_are : u ≡ uses_of (record_at file i).kind
   unfolding record_at
@@ -91,16 +93,21 @@ module _ (file : List ℕ) (i : ℕ) (a : Acceptance file (count_of file)) (h : 
 
   below : OperandsBelow u (count_of file)
   unfolding design_of
-  below = subst (λ (v : Uses). OperandsBelow v (count_of file)) (sym uses_are) (operands_below (design_of file) a.sound i h)
+  below = subst (λ (v : Uses). OperandsBelow v (count_of file)) (sym uses_are) (operands_below (design_of file) lent.accepted.sound i lent.below)
 
-  pub a_below : cond (ltb 0 u.count) u.a i < count_of file
-  a_below = or_below (ltb 0 u.count) below.a h
+  within : (used : Bool) {operand place : ℕ} → operand < count_of file → place ≡ cond used operand i
+      → (place < length numbers) × (place < max_count)
+  within used h r =
+      let l = or_below used h lent.below in let s = lent.size in let m = few _ _ lent.accepted in (omega arith, omega arith)
 
-  pub b_below : cond (ltb 1 u.count) u.b i < count_of file
-  b_below = or_below (ltb 1 u.count) below.b h
+  pub a_place : {place : ℕ} → place ≡ cond (ltb 0 u.count) u.a i → (place < length numbers) × (place < max_count)
+  a_place = within (ltb 0 u.count) below.a
 
-  pub c_below : cond (ltb 2 u.count) u.c i < count_of file
-  c_below = or_below (ltb 2 u.count) below.c h
+  pub b_place : {place : ℕ} → place ≡ cond (ltb 1 u.count) u.b i → (place < length numbers) × (place < max_count)
+  b_place = within (ltb 1 u.count) below.b
+
+  pub c_place : {place : ℕ} → place ≡ cond (ltb 2 u.count) u.c i → (place < length numbers) × (place < max_count)
+  c_place = within (ltb 2 u.count) below.c
 
 -- ---- what one record keeps
 

@@ -106,6 +106,9 @@ module _ (d : Design) (masks numbers : List ℕ) (e : numbers ≡ numbers_of d m
     pub half_is : word_at numbers i / 2 ≡ rank_of (survives d masks) i
     half_is = let w = word_is in let f = flag_low (survives d masks i) in omega arith
 
+    pub half_below : word_at numbers i / 2 < d.count
+    half_below = let e = half_is in let r = rank_le (survives d masks) i in omega arith
+
     pub even_none : word_at numbers i % 2 ≡ 0 → survives d masks i ≡ false
     even_none z =
         by_test (survives d masks i)

@@ -8,17 +8,15 @@ ghost use Rattle.compact.specs.Call.{compact_call};
 ghost use Rattle.compact.specs.Part.{compacted_by};
 ghost use Rattle.compactor.specs.Ready.{Ready};
 
+use crate::words::with_words;
 use crate::write::write_compacted;
 use checker::check;
 use masker::fill;
-use netlist::record::Record;
 use netlist::refusal::{Refusal, Refused};
 
 pub mod survivors;
+pub mod words;
 pub mod write;
-
-// Files of so few records are numbered in an array of this length, which takes less time to clear than one for the longest file.
-const SHORT_LIST: usize = 256;
 
 // Writes the file that a list of masks leaves into the front of the destination, and answers its length.
 fn write_front(file: &[u8], list: &[u64], destination: &mut [u8]) -> usize
@@ -27,12 +25,10 @@ fn write_front(file: &[u8], list: &[u64], destination: &mut [u8]) -> usize
     ensures destination { destination.new ≡ sets destination.old 0 (compacted_by file.now list.now) }
 {
     let n = list.len();
-    if n <= SHORT_LIST {
-        let mut short: [u64; SHORT_LIST] = [0; SHORT_LIST];
-        return write_compacted(file, list, &mut short[..n], destination);
-    }
-    let mut long: [u64; Record::MAX_COUNT] = [0; Record::MAX_COUNT];
-    write_compacted(file, list, &mut long[..n], destination)
+    with_words(
+        n,
+        &mut |numbers| write_compacted(file, list, numbers, destination),
+    )
 }
 
 pub fn compact(file: &[u8], list: &mut [u64], destination: &mut [u8]) -> Result<usize, Refused>

@@ -5,8 +5,7 @@ use mathlib.Core.Bool.{Bool, true, false}
 use mathlib.Core.List.{List}
 use Prim.Native.Nat.{ℕ, ◌*◌, ◌≤◌}
 use lib.Dec.{eqb}
-use lib.ListN.{length, take}
-use lib.Seq.{length-take-le}
+use lib.ListN.{length}
 use borrow.Author.Tests.{eqb-true, eqb-false}
 use Rattle.std.specs.Prelude.{Result, Ok, Err, is_ok}
 use Rattle.endian.specs.Bytes.{word_bytes}
@@ -31,10 +30,6 @@ in_bytes c buffer = record { answer = c.answer; list = leaves (is_ok c.answer) (
 
 abbrev pub trim_in_bytes : TrimCall → List ℕ → TrimCall
 trim_in_bytes c buffer = record { answer = c.answer; list = leaves (is_ok c.answer) (word_bytes c.list) buffer; destination = c.destination }
-
--- the front of a longer list
-pub front_matches : {n bytes : ℕ} (list : List ℕ) → n ≤ length list → Matches n bytes → Matches (length (take n list)) bytes
-front_matches {n} {bytes} list h s = subst (λ (m : ℕ). Matches m bytes) (sym (length-take-le n list h)) s
 
 -- what there is to say of a call of masks with a list that matches a buffer
 pub record Matched (file buffer : List ℕ) (call : MasksCall) : Type 0 where

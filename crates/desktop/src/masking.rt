@@ -5,8 +5,9 @@ ghost use Rattle.answer.specs.Answer.{tallied_answer};
 ghost use Rattle.desktop.specs.Buffers.{masks_buffer};
 ghost use Rattle.desktop.specs.Words.{Matches};
 
-use crate::words::{LONG_LIST, SHORT_LIST, word_count, write_accepted};
+use crate::words::{word_count, write_accepted};
 use answer::number;
+use compactor::words::with_words;
 use masker::masks;
 
 // The same as `pcn_masks`, by way of a list of words.
@@ -27,10 +28,5 @@ pub extern "C" fn pcn_masks(file: &[u8], masks: &mut [u8]) -> u64
     ensures masks { masks.new ≡ (masks_buffer file.now masks.old).list }
 {
     let n = word_count(masks.len());
-    if n <= SHORT_LIST {
-        let mut short: [u64; SHORT_LIST] = [0; SHORT_LIST];
-        return masks_in_words(&mut short[..n], file, masks);
-    }
-    let mut long: [u64; LONG_LIST] = [0; LONG_LIST];
-    masks_in_words(&mut long[..n], file, masks)
+    with_words(n, &mut |words| masks_in_words(words, file, masks))
 }

@@ -5,8 +5,9 @@ ghost use Rattle.answer.specs.Answer.{tallied_answer};
 ghost use Rattle.desktop.specs.Buffers.{trim_buffers};
 ghost use Rattle.desktop.specs.Words.{Matches};
 
-use crate::words::{LONG_LIST, SHORT_LIST, word_count, write_accepted};
+use crate::words::{word_count, write_accepted};
 use answer::number;
+use compactor::words::with_words;
 use trimmer::trim;
 
 // The same as `pcn_trim`, by way of a list of words.
@@ -29,10 +30,8 @@ pub extern "C" fn pcn_trim(file: &[u8], masks: &mut [u8], destination: &mut [u8]
     ensures destination { destination.new ≡ (trim_buffers file.now masks.old destination.old).destination }
 {
     let n = word_count(masks.len());
-    if n <= SHORT_LIST {
-        let mut short: [u64; SHORT_LIST] = [0; SHORT_LIST];
-        return trim_in_words(&mut short[..n], file, masks, destination);
-    }
-    let mut long: [u64; LONG_LIST] = [0; LONG_LIST];
-    trim_in_words(&mut long[..n], file, masks, destination)
+    with_words(
+        n,
+        &mut |words| trim_in_words(words, file, masks, destination),
+    )
 }

@@ -11,11 +11,8 @@ use endian::write_words;
 use netlist::record::Record;
 use netlist::refusal::Refused;
 
-// Lists of so few words are worked on in an array of this length, which takes less time to clear than one for the longest list.
-pub const SHORT_LIST: usize = 256;
-
 // One word more than any file has records: a list of this length fits no file.
-pub const LONG_LIST: usize = Record::MAX_COUNT + 1;
+const LONG_LIST: usize = Record::MAX_COUNT + 1;
 
 // How many words match a buffer of so many bytes: one for each 8 bytes, or more than any file has records.
 pub fn word_count(bytes: usize) -> usize

@@ -4,10 +4,6 @@ use Rattle.compactor.proofs.WriteLaws.{words_stored}
 use Rattle.compactor.proofs.write.write_words.Goals as goal
 
 pub returns : goal.returns
-returns c = let pre = c.requires in
-    let write-64 = c.write_64 in
-    let write-642 = c.write_64-2 in
-    let args = c.args in
-    let w = args.words in
-    words_stored args.destination.now args.at w.front w.k w.keep (pre) _ _ _
-    write-64.ensures write-642.ensures c.write_64-3.ensures
+returns c =
+    let w = c.args.words in
+    words_stored c.args.destination.now c.args.at w.front w.k w.keep c.requires _ _ _ c.write_64.ensures c.write_64-2.ensures c.write_64-3.ensures
