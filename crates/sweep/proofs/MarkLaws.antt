@@ -6,16 +6,19 @@ use mathlib.Core.List.{List}
 use Prim.Native.Nat.{ℕ, zero, suc, ◌+◌, ◌-◌, ◌*◌, ◌/◌, ◌%◌, ◌^◌, ◌≤◌, ◌<◌}
 use native.Mathlib.Nat.{mod-lt, mod-eq_of_lt, lt_of_lt_of_le}
 use native.Mathlib.Omega.{arith}
-use lib.Bits.{bit_or}
+use lib.Bits.{bit_and, bit_or}
 use lib.ListN.{length, set, replicate}
 use lib.Pow.{pow_pos, pow_mono}
 use lib.Seq.{get_or-set_same, get_or-set_other}
+use Rattle.std.proofs.Common.{w64}
+use Rattle.std.specs.Int.{bit_not}
+use Rattle.std.proofs.lemmas.Nat.Bits.{bit_at_not}
 use Rattle.std.proofs.lemmas.List.{get_or-replicate, get_or_past, length-replicate}
 use Rattle.endian.specs.Lists.{word_at}
-use Rattle.bits.specs.Masks.{bit, without}
+use Rattle.bits.specs.Masks.{bit}
 use Rattle.bits.specs.Words.{cut, bit_length}
 use Rattle.bits.proofs.Counts.{length_in_holds}
-use Rattle.bits.proofs.Digits.{bit_lt, bit_of_or, bit_without, bit_cut, bit_beyond, bit_single, bit_single_other}
+use Rattle.bits.proofs.Digits.{bit_lt, bit_of_and, bit_of_or, bit_cut, bit_beyond, bit_single, bit_single_other}
 use Rattle.bits.proofs.Shifts.{length_zero, length_le, length_one}
 use Rattle.care.proofs.Families.{same_or_not, below_or_not}
 use Rattle.sweep.specs.Marks.{mark_at, Put, NoneMarked, IsHighest}
@@ -33,7 +36,7 @@ none_marked n low i j l h = ap (λ (w : ℕ). bit w (j % 64)) (word (below_or_no
 
 -- a new word in the place of the one that has the mark of record i
 module _ (marks : List ℕ) (i v new : ℕ) (h : i < 64 * length marks) (here : bit new (i % 64) ≡ v)
-    (others : (k : ℕ) → k ≢ i % 64 → bit new k ≡ bit (word_at marks (i / 64)) k) where
+    (others : (k : ℕ) → k < 64 → k ≢ i % 64 → bit new k ≡ bit (word_at marks (i / 64)) k) where
   word : word_at (set marks (i / 64) new) (i / 64) ≡ new
   word = get_or-set_same marks (i / 64) new 0 (omega arith)
 
@@ -41,7 +44,7 @@ module _ (marks : List ℕ) (i v new : ℕ) (h : i < 64 * length marks) (here : 
   other j n (inl e) =
       ap (λ (k : ℕ). bit (word_at (set marks (i / 64) new) k) (j % 64)) e
       ∙ ap (λ (w : ℕ). bit w (j % 64)) word
-      ∙ others (j % 64) (λ m. n (omega arith))
+      ∙ others (j % 64) (omega arith) (λ m. n (omega arith))
       ∙ ap (λ (k : ℕ). bit (word_at marks k) (j % 64)) (sym e)
   other j n (inr m) = ap (λ (w : ℕ). bit w (j % 64)) (get_or-set_other marks (i / 64) (j / 64) new 0 m)
 
@@ -58,15 +61,21 @@ module _ (marks : List ℕ) (i : ℕ) (h : i < 64 * length marks) where
       let p = i % 64 in
       put_word_at marks i 1 (bit_or x (2 ^ p)) h
       (let o = bit_of_or x (2 ^ p) p in let s = bit_single p in let b = bit_lt x p in omega arith)
-      (λ k n. let o = bit_of_or x (2 ^ p) k in let s = bit_single_other p k n in omega arith)
+      (λ k l n. let o = bit_of_or x (2 ^ p) k in let s = bit_single_other p k n in omega arith)
 
-  pub put_zero : Put marks i 0 (set marks (i / 64) (without (word_at marks (i / 64)) (2 ^ (i % 64))))
+  pub put_zero : Put marks i 0 (set marks (i / 64) (bit_and (word_at marks (i / 64)) (bit_not w64 (2 ^ (i % 64)))))
   put_zero =
       let x = word_at marks (i / 64) in
       let p = i % 64 in
-      put_word_at marks i 0 (without x (2 ^ p)) h
-      (let o = bit_without x (2 ^ p) p in let s = bit_single p in let b = bit_lt x p in omega arith)
-      (λ k n. let o = bit_without x (2 ^ p) k in let s = bit_single_other p k n in omega arith)
+      let fits : 2 ^ p < 2 ^ 64 = let m = pow_mono {i = p} {j = 63} (omega arith) in omega arith in
+      put_word_at marks i 0 (bit_and x (bit_not w64 (2 ^ p))) h
+      (let o = bit_of_and x (bit_not w64 (2 ^ p)) p in let m = bit_at_not w64 (2 ^ p) p fits (omega arith) in let s = bit_single p in omega arith)
+      (λ k l n.
+      let o = bit_of_and x (bit_not w64 (2 ^ p)) k in
+      let m = bit_at_not w64 (2 ^ p) k fits l in
+      let s = bit_single_other p k n in
+      let b = bit_lt x k in
+      omega arith)
 
 -- ---- the highest mark below a record
 

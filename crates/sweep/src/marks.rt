@@ -41,7 +41,6 @@ impl Marks {
         }
     }
 
-    #[tactic(auto, using(crate::proofs::MarkLaws::put_one))]
     pub fn mark(&mut self, i: usize)
         requires { i ≤ max_count }
         ensures { Put self.old i 1 self.new }
@@ -49,18 +48,16 @@ impl Marks {
         self.words[i / 64] |= bit_of(i);
     }
 
-    #[tactic(auto, using(crate::proofs::MarkLaws::put_zero))]
     pub fn unmark(&mut self, i: usize)
         requires { i ≤ max_count }
         ensures { Put self.old i 0 self.new }
     {
-        let at = i / 64;
-        self.words[at] ^= bit_of(i) & self.words[at];
+        self.words[i / 64] &= !bit_of(i);
     }
 
     // The highest marked record below i, if there is one. Of the word that has the mark of i, only the marks of lower records count. A word
     // without marks is 64 records without them.
-    #[tactic(auto, using(crate::proofs::MarkLaws::first_none, crate::proofs::MarkLaws::first_in_range, crate::proofs::MarkLaws::next_none, crate::proofs::MarkLaws::next_found, crate::proofs::MarkLaws::next_in_range))]
+    #[tactic(auto, using(crate::proofs::MarkLaws::first_none, crate::proofs::MarkLaws::first_in_range, crate::proofs::MarkLaws::next_none, crate::proofs::MarkLaws::next_in_range))]
     pub fn highest_below(&self, i: usize) -> Option<usize>
         requires { i ≤ max_count }
         ensures { Highest self.now i result }

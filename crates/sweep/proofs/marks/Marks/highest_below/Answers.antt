@@ -8,7 +8,7 @@ use Rattle.sweep.proofs.marks.Marks.highest_below.Goals as goal
 pub returns-then-word-ne0 : goal.returns-then-word-ne0
 returns-then-word-ne0 c =
     rw c.bit_length.ensures (rw (sym c.self.view_is)
-    (first_found c.self.inside.words c.args.i c.cut_to-word.result (omega arith) c.cut_to-word.ensures (omega arith)))
+    (first_found c.self.inside.words c.args.i c.cut_to-word.result (omega arith) (omega arith) (omega arith)))
 
 pub returns-then-word-ne0-2 : goal.returns-then-word-ne0-2
 returns-then-word-ne0-2 c =
