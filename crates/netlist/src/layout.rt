@@ -36,6 +36,7 @@ pub fn record_count(file: &[u8]) -> usize
 }
 
 // The kind's number of record i.
+#[tactic(auto, unfolding(crate::specs::Layout::code_at))]
 pub fn code_at(file: &[u8], i: usize) -> u64
     requires { record_start i + record_size ≤ length file.now }
     ensures { result ≡ code_at file.now i }
@@ -44,6 +45,7 @@ pub fn code_at(file: &[u8], i: usize) -> u64
     u64::from(file[at])
 }
 
+#[tactic(auto, unfolding(crate::specs::Layout::width_at))]
 pub fn width_at(file: &[u8], i: usize) -> u64
     requires { record_start i + record_size ≤ length file.now }
     ensures { result ≡ width_at file.now i }
@@ -53,6 +55,7 @@ pub fn width_at(file: &[u8], i: usize) -> u64
 }
 
 // std has no `From` from u64 to usize, here and elsewhere.
+#[tactic(auto, unfolding(crate::specs::Layout::fields_at))]
 pub fn fields_at(file: &[u8], i: usize) -> Fields
     requires { record_start i + record_size ≤ length file.now }
     ensures { result ≡ fields_at file.now i }
@@ -73,6 +76,7 @@ pub fn keep_start(i: usize) -> usize
     record_start(i) + 16
 }
 
+#[tactic(auto, unfolding(crate::specs::Layout::keep_at))]
 pub fn keep_at(file: &[u8], i: usize) -> u64
     requires { record_start i + record_size ≤ length file.now }
     ensures { result ≡ keep_at file.now i }
@@ -81,6 +85,7 @@ pub fn keep_at(file: &[u8], i: usize) -> u64
 }
 
 // Record i, as its kind, width and keep word.
+#[tactic(auto, unfolding(crate::specs::Layout::record_at))]
 pub fn record_at(file: &[u8], i: usize) -> Record
     requires { record_start i + record_size ≤ length file.now }
     ensures { result ≡ record_at file.now i }
@@ -95,6 +100,7 @@ pub fn record_at(file: &[u8], i: usize) -> Record
 }
 
 // The role of record i.
+#[tactic(auto, unfolding(crate::specs::Layout::design_of, crate::specs::Layout::record_at))]
 pub fn role_at(file: &[u8], i: usize) -> Role
     requires { record_start i + record_size ≤ length file.now }
     ensures { result ≡ role_at (design_of file.now) i }

@@ -112,6 +112,7 @@ impl Record {
 
 impl Kind {
     // The kind with a number, carrying the fields that it uses. It is no `TryFrom`: `kind_of` gives every number a kind.
+    #[tactic(auto, unfolding(crate::specs::Kinds::kind_of))]
     pub fn new(code: u64, fields: Fields) -> Kind
         ensures { result ≡ kind_of code fields }
     {
@@ -152,6 +153,7 @@ impl Kind {
 
 impl Role {
     // The role of the kind with a number.
+    #[tactic(auto, unfolding(crate::specs::Kinds::kind_of))]
     pub fn new(code: u64, fields: Fields) -> Role
         ensures { result ≡ (uses_of (kind_of code fields)).role }
     {
@@ -179,7 +181,7 @@ impl Role {
 
 impl Uses {
     // What the kind with a number uses. The processor predicts tests of ranges better than a jump by the number.
-    #[tactic(auto, unfolding(crate::specs::Kinds::kind_of))]
+    #[tactic(auto, using(crate::proofs::KindLaws::kind_of_beyond, crate::proofs::KindLaws::shifts, crate::proofs::KindLaws::two_operands), unfolding(crate::specs::Kinds::kind_of))]
     pub fn new(code: u64, fields: Fields) -> Uses
         ensures { result ≡ uses_of (kind_of code fields) }
     {
@@ -202,6 +204,7 @@ impl Uses {
     }
 
     // What an input or a constant uses, the kinds with no operand.
+    #[tactic(auto, unfolding(crate::specs::Kinds::kind_of))]
     fn of_source(code: u64, fields: Fields) -> Uses
         requires { code < 2 }
         ensures { result ≡ uses_of (kind_of code fields) }
@@ -214,6 +217,7 @@ impl Uses {
     }
 
     // What a register, an output or an extract uses, the kinds with one operand.
+    #[tactic(auto, unfolding(crate::specs::Kinds::kind_of))]
     fn of_single(code: u64, fields: Fields) -> Uses
         requires { (2 ≤ code) × (code < 5) }
         ensures { result ≡ uses_of (kind_of code fields) }

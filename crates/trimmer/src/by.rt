@@ -16,6 +16,7 @@ use masker::tally::tally_of;
 use netlist::refusal::{Refusal, Refused};
 
 // The tally of a list of masks, or the lowest record whose mask breaks a width or a rule.
+#[tactic(auto, using(trim::proofs::CallByLaws::list_broken, trim::proofs::CallByLaws::list_done), unfolding(netlist::specs::Layout::design_of))]
 fn judge(file: &[u8], list: &[u64]) -> Result<Tally, Refused>
     requires { Lent file.now list.now }
     ensures { result ≡ list_answer (design_of file.now) list.now }
@@ -38,6 +39,7 @@ fn write_by(file: &[u8], list: &[u64], destination: &mut [u8]) -> Result<Tally, 
     Ok(tally)
 }
 
+#[tactic(auto, using(rules::proofs::Acceptance::accepted, rules::proofs::Acceptance::lent), unfolding(trim::specs::CallBy::trim_by_call, trim::specs::CallBy::after_trim, trim::specs::Call::trim_after, trim::specs::Call::trim_answer, care::specs::Call::masks_call, care::specs::Call::call_after))]
 pub fn trim_by(file: &[u8], list: &[u64], destination: &mut [u8]) -> Result<Tally, Refused>
     ensures answer { result ≡ (trim_by_call file.now list.now destination.old).answer }
     ensures destination { destination.new ≡ (trim_by_call file.now list.now destination.old).destination }

@@ -14,6 +14,7 @@ use netlist::refusal::{Refusal, Refused};
 pub mod by;
 pub mod write;
 
+#[tactic(auto, using(rules::proofs::Acceptance::accepted, rules::proofs::Acceptance::lent, care::proofs::LeastMasks::masks_length), unfolding(trim::specs::Call::trim_after, trim::specs::Call::trim_answer, care::specs::Call::masks_call, care::specs::Call::call_after))]
 pub fn trim(file: &[u8], list: &mut [u64], destination: &mut [u8]) -> Result<Tally, Refused>
     ensures answer { result ≡ (trim_call file.now list.old destination.old).answer }
     ensures list { list.new ≡ (trim_call file.now list.old destination.old).list }

@@ -7,6 +7,7 @@ ghost use Rattle.trim.specs.Trimmed.{trimmed_by};
 use endian::write_64;
 use netlist::layout::{keep_at, keep_start};
 
+#[tactic(auto, using(trim::proofs::TrimLaws::trimming_next, trim::proofs::TrimLaws::trimming_all, rules::proofs::Acceptance::holds_record), unfolding(trim::specs::Trimmed::trim_to, netlist::specs::Layout::record_at))]
 pub fn write_trimmed(file: &[u8], list: &[u64], destination: &mut [u8])
     requires { Lent file.now list.now × (length destination.old ≡ length file.now) }
     ensures { destination.new ≡ trimmed_by file.now list.now }
