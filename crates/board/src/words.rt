@@ -19,6 +19,7 @@ fn is_held(role: Role) -> bool
 
 // Whether a cycle takes a word from record i that has a bit at its width or above. The word is looked at before the role: it is hardly ever too
 // wide, where roles come in no order that a processor could foresee.
+#[tactic(auto, using(netlist::proofs::Tests::short_test), unfolding(netlist::specs::Layout::design_of, netlist::specs::Layout::record_at))]
 pub fn is_wide(file: &[u8], board: &[u64], i: usize) -> bool
     requires { LentAt file.now board.now i }
     ensures { result ≡ is_wide (design_of file.now) board.now i }

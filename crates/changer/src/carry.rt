@@ -22,6 +22,7 @@ fn carried_word(role: Role, mask: u64, word: u64) -> u64
 }
 
 // What goes over for record i.
+#[tactic(auto, using(changeover::proofs::CarriedLaws::carried_was))]
 fn carried_at(file: &[u8], list: &[u64], board: &[u64], i: usize) -> u64
     requires { LentAt file.now list.now i × LentAt file.now board.now i }
     ensures { result ≡ carried_at (design_of file.now) list.now board.now i }

@@ -33,6 +33,7 @@ fn change(file: &[u8], list: &mut [u64], board: &[u64], new: &mut [u64]) -> Resu
 }
 
 // Fills a list with the masks of a file's design, and another with the words of a board list that go over to the compacted file.
+#[tactic(auto, unfolding(changeover::specs::Call::change_over_call, clock::specs::Call::answer_after))]
 pub fn change_over(
     file: &[u8],
     list: &mut [u64],

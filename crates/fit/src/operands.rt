@@ -22,6 +22,7 @@ pub fn operand_limit(role: Role, n: usize, i: usize) -> usize
 }
 
 // An operand lies below the limit and names no output.
+#[tactic(auto, using(netlist::proofs::KindLaws::output_code), unfolding(netlist::specs::Layout::design_of, netlist::specs::Layout::record_at))]
 fn names(file: &[u8], limit: usize, j: usize) -> bool
     requires { record_start limit ≤ length file.now }
     ensures { result ≡ test_all (below j limit ∷ is_not (is_output (role_at (design_of file.now) j)) ∷ []) }
@@ -29,6 +30,7 @@ fn names(file: &[u8], limit: usize, j: usize) -> bool
     j < limit && code_at(file, j) != Record::OUTPUT
 }
 
+#[tactic(auto, using(rules::proofs::OperandLaws::second_fails), unfolding(rules::specs::Fit::names_rules, netlist::specs::Kinds::operands_of))]
 pub fn operands_fit(file: &[u8], limit: usize, uses: Uses) -> bool
     requires { record_start limit ≤ length file.now }
     ensures { result ≡ test_all (names_rules (design_of file.now) limit (operands_of uses)) }

@@ -50,6 +50,7 @@ fn sum_at_most(x: u64, y: u64, z: u64) -> bool
 }
 
 // A multiplier has 32 bits or less.
+#[tactic(auto, using(netlist::proofs::KindLaws::multiplier_code))]
 pub fn multiplier_fits(code: u64, w: u64) -> bool
     ensures { (f : Fields) → result ≡ test_all (multiplier_rules (kind_of code f) w) }
 {
@@ -64,6 +65,7 @@ pub fn width_in_range(w: u64) -> bool
 
 // The width rule of the kind with a number, for a record of width w whose operands have the widths wa, wb and wc. The processor
 // predicts tests of ranges better than a jump by the number.
+#[tactic(auto, using(netlist::proofs::KindLaws::no_width_rule, netlist::proofs::KindLaws::one_width_rule, netlist::proofs::KindLaws::shifts, netlist::proofs::KindLaws::two_operands), unfolding(netlist::specs::Kinds::kind_of))]
 pub fn widths_fit(code: u64, fields: Fields, w: u64, wa: u64, wb: u64, wc: u64) -> bool
     requires { code < kind_count }
     ensures { result ≡ test_all (width_rules (kind_of code fields) w wa wb wc) }

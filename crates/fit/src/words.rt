@@ -8,6 +8,7 @@ use bits::arith::shr;
 use netlist::record::{Fields, Uses};
 
 // The fields of the file are those that the kind uses, and 0 elsewhere.
+#[tactic(auto, unfolding(rules::specs::Fit::field_rules))]
 pub fn fields_fit(f: Fields, u: Uses) -> bool
     ensures { result ≡ test_all (field_rules f u) }
 {

@@ -33,6 +33,7 @@ fn seed_of(role: Role, w: u64) -> u64
 }
 
 // The mask that record i has before anything is asked of it.
+#[tactic(auto, unfolding(netlist::specs::Layout::design_of, netlist::specs::Layout::record_at))]
 pub fn seed_at(file: &[u8], i: usize) -> u64
     requires { Acceptance file.now (count_of file.now) × (i < count_of file.now) }
     ensures { result ≡ output_seed (design_of file.now) i }
@@ -51,6 +52,7 @@ fn seed(file: &[u8], list: &mut [u64])
 }
 
 // Fills a list with the masks of an accepted file.
+#[tactic(auto, unfolding(care::specs::Least::masks_of, netlist::specs::Layout::design_of))]
 pub fn fill(file: &[u8], list: &mut [u64]) -> Tally
     requires { Lent file.now list.old }
     ensures tally { result ≡ tally_of (design_of file.now) (masks_of (design_of file.now)) }
@@ -62,6 +64,7 @@ pub fn fill(file: &[u8], list: &mut [u64]) -> Tally
 }
 
 // The masks of a file's design in a list of n words, and their tally.
+#[tactic(auto, using(rules::proofs::Acceptance::accepted, rules::proofs::Acceptance::lent), unfolding(care::specs::Call::masks_call, care::specs::Call::call_after))]
 pub fn masks(file: &[u8], list: &mut [u64]) -> Result<Tally, Refused>
     ensures answer { result ≡ (masks_call file.now list.old).answer }
     ensures list { list.new ≡ (masks_call file.now list.old).list }

@@ -43,7 +43,7 @@ fn run(file: &[u8], board: &mut [u64], next: &mut [u64]) -> Result<(), Refused>
 }
 
 // Writes the reset states of a file's design into a board list of n words.
-#[tactic(auto, using(crate::proofs::StartLaws::unfit_answer, crate::proofs::StartLaws::unfit_board, crate::proofs::StartLaws::fit_answer, crate::proofs::StartLaws::fit_board))]
+#[tactic(auto, using(rules::proofs::Acceptance::accepted, rules::proofs::Acceptance::lent), unfolding(clock::specs::Call::start_call, clock::specs::Call::answer_after))]
 pub fn start(file: &[u8], board: &mut [u64]) -> Result<(), Refused>
     ensures answer { result ≡ (start_call file.now board.old).answer }
     ensures board { board.new ≡ (start_call file.now board.old).board }
@@ -64,6 +64,7 @@ pub fn both_have(board: usize, next: usize, n: usize) -> bool
 }
 
 // Runs one cycle of a file's design: the values in the board list, the next states in the next list.
+#[tactic(auto, unfolding(clock::specs::Call::cycle_with, clock::specs::Call::answer_after))]
 pub fn cycle(file: &[u8], board: &mut [u64], next: &mut [u64]) -> Result<(), Refused>
     ensures answer { result ≡ (cycle_call file.now board.old next.old).answer }
     ensures board { board.new ≡ (cycle_call file.now board.old next.old).board }

@@ -1,11 +1,10 @@
--- `masker::fill` meets its contract: the seed, raised to the smallest closed family, and its tally.
+-- `masker::fill` meets its contract: the seed fits the widths, and so do the masks that it is raised to.
 -- Assumes nothing.
 use mathlib.Core.List.{List}
 use mathlib.Core.Path.{sym, ap, subst, ◌∙◌}
 use Prim.Native.Nat.{ℕ}
 use Rattle.netlist.specs.Layout.{design_of}
 use Rattle.care.specs.Least.{least_above, masks_of, Fits}
-use Rattle.care.specs.Call.{tally_of}
 use Rattle.care.proofs.LeastMasks.{seed_fits, masks_fit}
 use Rattle.masker.proofs.fill.Goals as goal
 
@@ -29,9 +28,3 @@ tally_of-requires c = let args = c.args in
           c.seed.ensures))
           (masks_fit (design_of file) s.sound),
     )
-
-pub returns : goal.returns
-unfolding masks_of design_of
-returns c = let d = design_of c.args.file.now in
-    let e = c.raise.ensures ∙ ap (least_above d)
-    c.seed.ensures in record { tally = c.tally_of.ensures ∙ ap (tally_of d) e; list = e }

@@ -1,3 +1,0 @@
--- The laws that the proofs of this crate cite.
--- Assumes nothing.
-pub mod StartLaws
