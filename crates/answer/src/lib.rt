@@ -21,7 +21,7 @@ pub trait Accepted {
         ensures { result ≡ number self };
 }
 
-// The count of records, or how many bytes were written.
+// The count of records, or how many bytes were written. std has no `From` from usize to u64.
 impl Accepted for usize {
     ghost Fits = { λ _. ⊤ };
 

@@ -1,5 +1,6 @@
 // Masks: the low bits of a word, a word cut to a width, its ones and its length.
-// A caller of low_mask keeps n at 64 or below; the others ask nothing.
+// A caller of low_mask keeps n at 64 or below; the others ask nothing. A width has no type of its own: it is a byte of the file, and every clause
+// would have to reach through the type for the number that it is about.
 ghost use Rattle.std.specs.Prelude.{◌≡◌, ◌≤◌};
 ghost use Rattle.bits.specs.Masks.{exceeds};
 ghost use Rattle.bits.specs.Words.{low_mask, cut, count_ones, bit_length};

@@ -1,4 +1,4 @@
-// The words of a board list that go over to the compacted file.
+// The words of a board list that go over to the compacted file. A new number becomes an index by `as`: std has no `From` from u64 to usize.
 // A caller of `fill_new` has an accepted file and lists of n words.
 ghost use Rattle.std.specs.Prelude.{◌≡◌};
 ghost use Rattle.netlist.specs.Layout.{design_of};

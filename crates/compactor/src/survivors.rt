@@ -30,7 +30,8 @@ pub fn is_blank(file: &[u8], list: &[u64], i: usize) -> bool
     !is_port(role_at(file, i))
 }
 
-// An operand where a kind with so many operands uses it, and the record's own number where it does not. `place` counts operands from 0.
+// An operand where a kind with so many operands uses it, and the record's own number where it does not. `place` counts operands from 0; it is compared
+// with the count and chooses no step.
 fn operand_or(place: usize, count: usize, operand: usize, own: usize) -> usize
     ensures { result ≡ cond (ltb place count) operand own }
 {

@@ -1,4 +1,4 @@
-// Writes the file that a list of masks leaves into the front of a buffer.
+// Writes the file that a list of masks leaves into the front of a buffer. Numbers go between u64 and usize by `as`, for which std has no `From`.
 // A caller has an accepted file, a mask for each record, a list of as many words, which are 0, and a buffer of the file's length.
 ghost use Rattle.std.specs.Prelude.{◌≡◌, ◌+◌, ◌≤◌, ◌<◌, length};
 ghost use Rattle.std.proofs.lemmas.List.Edits.{sets};

@@ -115,7 +115,8 @@ fn constant_value(file: &[u8], i: usize) -> Option<u64>
     Some(k & keep)
 }
 
-// What operand x is asked beside y: d, cut by the value of y where y alone is a constant.
+// What operand x is asked beside y: d, cut by the value of y where y alone is a constant. `inverted` is a word that is joined in, 0 or D, and chooses
+// no step.
 #[tactic(auto, unfolding(signal::specs::Asks::beside))]
 fn beside(file: &[u8], x: usize, y: usize, inverted: u64, d: u64) -> u64
     requires { Holds file.now x y }

@@ -14,7 +14,8 @@ use netlist::refusal::Refused;
 // One word more than any file has records: a list of this length fits no file.
 const LONG_LIST: usize = Record::MAX_COUNT + 1;
 
-// How many words match a buffer of so many bytes: one for each 8 bytes, or more than any file has records.
+// How many words match a buffer of so many bytes: one for each 8 bytes, or more than any file has records. It is no `Option`: the call is made all
+// the same, since the file's refusals come before 11.
 pub fn word_count(bytes: usize) -> usize
     ensures room { result ≤ max_count + 1 }
     ensures matches { Matches result bytes }

@@ -70,7 +70,8 @@ fn of_record(file: &[u8], list: &[u64], i: usize, low: usize) -> usize
     of_asks(list, asked(file, i, d), own)
 }
 
-// The lowest record at fault, or the count of records where none is. It is no `Option`, since each record lowers the number that it is given.
+// The lowest record at fault, or the count of records where none is.
+// It is no `Option`: the clause says `lowest_fault` of the definitions, a number, and the one caller would take the `Option` apart at once.
 #[tactic(auto, using(crate::proofs::FaultLaws::searched_none, crate::proofs::FaultLaws::searched_next), unfolding(netlist::specs::Layout::design_of))]
 pub fn lowest_fault(file: &[u8], list: &[u64]) -> usize
     requires { Lent file.now list.now }

@@ -21,7 +21,7 @@ pub fn operand_limit(role: Role, n: usize, i: usize) -> usize
     }
 }
 
-// An operand lies below the limit and names no output.
+// An operand lies below the limit and names no output. Its kind's number is tested, since its record is decoded nowhere in the check.
 #[tactic(auto, using(netlist::proofs::KindLaws::output_code), unfolding(netlist::specs::Layout::design_of, netlist::specs::Layout::record_at))]
 fn names(file: &[u8], limit: usize, j: usize) -> bool
     requires { record_start limit ≤ length file.now }

@@ -9,7 +9,7 @@ ghost use Rattle.rules.specs.Fit.{width_range, multiplier_rules};
 
 use netlist::record::{Fields, Kind, Record};
 
-// One function for each number of equations, since a list of them would be built anew for each record.
+// One function for each number of equations: a list of them is no plainer, where each is one line.
 fn one_equal(x: u64, y: u64) -> bool
     ensures { result ≡ test_all (equal x y ∷ []) }
 {

@@ -41,7 +41,8 @@ pub fn seed_at(file: &[u8], i: usize) -> u64
     seed_of(role_at(file, i), width_at(file, i))
 }
 
-// Fills a list with the seed.
+// Fills a list with the seed. As for `reset` and `load` in `board`, the one line that differs is the whole, so nothing is gained by a function for
+// all three.
 fn seed(file: &[u8], list: &mut [u64])
     requires { Lent file.now list.old }
     ensures { list.new ≡ words_of (output_seed (design_of file.now)) (count_of file.now) }

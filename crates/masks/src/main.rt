@@ -18,7 +18,8 @@ use std::io::Read;
 // One byte more than the longest file: enough to refuse what is longer.
 const INPUT: usize = HEADER + RECORD * Record::MAX_COUNT + 1;
 
-// Each function that prints ends at the first write that fails, since a line behind a gap could show the mask of another record.
+// The text of each line is the program's own, and no `Display` of a type. Each function that prints ends at the first write that fails, since a line
+// behind a gap could show the mask of another record.
 fn print_refusal(rt: &impl Print, refused: Refused) -> io::Result<()> {
     println!(rt;
         "refused {} record {}",
@@ -39,13 +40,13 @@ fn print_mask(rt: &impl Print, i: usize, width: u64, mask: u64) -> io::Result<()
 fn print_masks(rt: &impl Print, file: &[u8], list: &[u64]) -> io::Result<()>
     requires { Lent file.now list.now }
 {
-    for i in 0..list.len() {
-        print_mask(rt, i, width_at(file, i), list[i])?;
+    for (i, mask) in list.iter().enumerate() {
+        print_mask(rt, i, width_at(file, i), *mask)?;
     }
     Ok(())
 }
 
-// The tally and the masks of an accepted file of n records.
+// The tally and the masks of an accepted file of n records. The product has no heap, so the list stands in an array for the longest file.
 fn print_accepted(rt: &impl Print, file: &[u8], n: usize) -> io::Result<()>
     requires { Acceptance file.now n }
 {

@@ -30,6 +30,7 @@ pub struct Refused {
 }
 
 impl Refusal {
+    // The number of an enum's case is taken by `as`.
     pub fn number(self) -> u64
         ensures number { result ≡ number_of self }
         ensures bound { result < 256 }

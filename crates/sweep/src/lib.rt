@@ -92,6 +92,7 @@ fn sweep(file: &[u8], list: &mut [u64], marks: &mut Marks)
 }
 
 // Raises the masks in a list to the smallest closed family above them. Each record is visited once, and then as often as marks are left.
+// 01 names the form of the loop of sweeps: it is left by `break`.
 #[tactic(auto, unfolding(netlist::specs::Layout::design_of))]
 pub fn raise(file: &[u8], list: &mut [u64])
     requires { Acceptance file.now (count_of file.now) × Fits (design_of file.now) list.old }

@@ -1,5 +1,5 @@
 // A set of marks, one bit for each record, 64 to a word. Clauses see the list of its words.
-// A caller names a record that the longest file can have, or the number behind its last one.
+// A caller names a record that the longest file can have, or the number behind its last one. Between u64 and usize std has no `From`.
 ghost use Rattle.std.specs.Prelude.{◌≡◌, ◌+◌, ◌%◌, ◌^◌, ◌≤◌};
 ghost use Rattle.netlist.specs.Limits.{max_count};
 ghost use Rattle.sweep.specs.Marks.{NoneMarked, Put, Highest};
