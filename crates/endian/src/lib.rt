@@ -6,13 +6,13 @@ ghost use Rattle.std.specs.Prelude.{◌≡◌, ◌++◌, ◌+◌, ◌*◌, ◌�
 ghost use Rattle.endian.specs.Bytes.{number_at, bytes, word_bytes};
 
 // The number in the 2 bytes from `at` on.
-pub fn read_16(s: &[u8], at: usize) -> u64
+pub fn read_16(s: &[u8], at: usize) -> u16
     requires { at + 2 ≤ length s.now }
     ensures number { result ≡ number_at s.now at 2 }
     ensures bound { result < 2 ^ 16 }
 {
     // The range has as many bytes as the array, so there is always something to unwrap.
-    u64::from(u16::from_le_bytes(s[at..at + 2].try_into().unwrap()))
+    u16::from_le_bytes(s[at..at + 2].try_into().unwrap())
 }
 
 // The number in the 8 bytes from `at` on.

@@ -24,7 +24,7 @@ pub fn version(file: &[u8]) -> u64
     requires { header_size ≤ length file.now }
     ensures { result ≡ version_of file.now }
 {
-    read_16(file, 3)
+    u64::from(read_16(file, 3))
 }
 
 pub fn record_count(file: &[u8]) -> usize
@@ -32,7 +32,7 @@ pub fn record_count(file: &[u8]) -> usize
     ensures count { result ≡ count_of file.now }
     ensures bound { result < 2 ^ 16 }
 {
-    read_16(file, 6) as usize
+    usize::from(read_16(file, 6))
 }
 
 // The kind's number of record i.
@@ -54,16 +54,15 @@ pub fn width_at(file: &[u8], i: usize) -> u64
     u64::from(file[at])
 }
 
-// std has no `From` from u64 to usize, here and elsewhere.
 #[tactic(auto, unfolding(crate::specs::Layout::fields_at))]
 pub fn fields_at(file: &[u8], i: usize) -> Fields
     requires { record_start i + record_size ≤ length file.now }
     ensures { result ≡ fields_at file.now i }
 {
     let at = record_start(i);
-    let a = read_16(file, at + 2) as usize;
-    let b = read_16(file, at + 4) as usize;
-    let c = read_16(file, at + 6) as usize;
+    let a = usize::from(read_16(file, at + 2));
+    let b = usize::from(read_16(file, at + 4));
+    let c = usize::from(read_16(file, at + 6));
     let k = read_64(file, at + 8);
     Fields { a, b, c, k }
 }
