@@ -19,7 +19,7 @@ fn marked(file: &[u8]) -> bool
     requires { header_size ≤ length file.now }
     ensures { result ≡ test_all (mark_rules file.now) }
 {
-    file[0] == 0x50 && (file[1] == 0x43 && (file[2] == 0x4e && file[5] == 0))
+    file.starts_with(b"PCN") && file[5] == 0
 }
 
 // A rule that does not hold is the refusal.
