@@ -1,5 +1,5 @@
--- What the code below `change_over` asks of its callers. No public promise mentions it.
--- Assumes nothing.
+-- What the code below `change_over` asks of its callers. No public promise mentions it. No type says it, as it is about lists that are lent
+-- together for one call. Assumes nothing.
 use Rattle.std.specs.Prelude.{◌≡◌, List, ℕ, length}
 use Rattle.netlist.specs.Layout.{design_of, count_of}
 use Rattle.rules.specs.Sound.{Acceptance}

@@ -1,5 +1,5 @@
 -- How the code holds what a record asks, and what it can read. No rule is stated here, and no promise of an operation mentions it.
--- Assumes nothing.
+-- What an arm can read has no type of its own, since each kind can read something else. Assumes nothing.
 use Rattle.std.specs.Prelude.{List, [], ◌∷◌, ℕ, ◌+◌, ◌≤◌, length}
 use Rattle.std.specs.Int.Bits.{bit_and, bit_xor}
 use Rattle.netlist.specs.Limits.{max_width}

@@ -1,5 +1,6 @@
 // Where the header and the records stand in a file, and the reading of a record.
-// Each reader asks that what it reads lies within the file.
+// Each reader asks that what it reads lies within the file. A record within a file has no type of its own, since check reads records before
+// anything is known of the file.
 ghost use Rattle.std.specs.Prelude.{cond, ◌≡◌, ◌+◌, ◌*◌, ◌≤◌, ◌<◌, ◌^◌, length};
 ghost use Rattle.netlist.specs.Kinds.{is_register};
 ghost use Rattle.netlist.specs.Layout.{header_size, record_size, record_start, keep_start, count_of, version_of, code_at, width_at, fields_at, keep_at, record_at, design_of, role_at};

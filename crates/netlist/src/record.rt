@@ -112,7 +112,8 @@ impl Record {
 }
 
 impl Kind {
-    // The kind with a number, carrying the fields that it uses. It is no `TryFrom`: `kind_of` gives every number a kind.
+    // The kind with a number, carrying the fields that it uses. It is no `TryFrom`: `kind_of` gives every number a kind,
+    // and takes the number and the fields as two, as the format has them.
     #[tactic(auto, unfolding(crate::specs::Kinds::kind_of))]
     pub fn new(code: u64, fields: Fields) -> Kind
         ensures { result ≡ kind_of code fields }
@@ -232,6 +233,7 @@ impl Uses {
         }
     }
 
+    // One function for each number of operands, as the definitions have them.
     fn none(k: u64, word: u64, role: Role) -> Uses
         ensures { result ≡ none k word role }
     {

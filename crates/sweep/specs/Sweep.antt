@@ -1,4 +1,4 @@
--- What the functions below `raise` promise to each other. No public promise mentions it.
+-- What the functions below `raise` promise to each other. No public promise mentions it. No type says `Ready`, which is about a list that is lent.
 -- Assumes nothing.
 use Rattle.std.specs.Prelude.{◌≡◌, ◌≢◌, ◌⊎◌, List, ℕ, ◌≤◌, ◌<◌, length}
 use Rattle.bits.specs.Masks.{Within}
