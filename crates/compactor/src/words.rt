@@ -6,7 +6,7 @@ ghost use Rattle.netlist.specs.Limits.{max_count};
 use netlist::record::Record;
 
 // Lists of so few words stand in an array of this length, which takes less time to clear than one for the longest list.
-const SHORT_LIST: usize = 256;
+pub const SHORT_LIST: usize = 256;
 
 // One word more than any file has records: a list of this length fits no file.
 const LONG_LIST: usize = Record::MAX_COUNT + 1;

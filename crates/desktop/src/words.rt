@@ -7,12 +7,13 @@ ghost use Rattle.netlist.specs.Refusals.{leaves};
 ghost use Rattle.desktop.specs.Words.{Matches, Room};
 
 use care::Tally;
+pub use compactor::words::SHORT_LIST;
 use endian::write_words;
 use netlist::record::Record;
 use netlist::refusal::Refused;
 
 // One word more than any file has records: a list of this length fits no file.
-const LONG_LIST: usize = Record::MAX_COUNT + 1;
+pub const LONG_LIST: usize = Record::MAX_COUNT + 1;
 
 // How many words match a buffer of so many bytes: one for each 8 bytes, or more than any file has records. It is no `Option`: the call is made all
 // the same, since the file's refusals come before 11.

@@ -157,12 +157,16 @@ module _ (d : Design) (s : Sound d) (i : ℕ) (before masks after marks cleared 
       omega arith
   added_so_far k l a (inr m) = let b = ones_rise d s before masks f w.between in omega arith
 
-  pub sweep_step : Swept d i before after noted
-  sweep_step = record {
+  down_to_it : Swept d i before after noted
+  down_to_it = record {
     between = between_trans d before masks after w.between v.between;
     covered = λ k l. v.covered k l (below_or_not k i) (before_visit k l (same_or_not k i));
     added = λ k l a m. added_so_far k l a (v.added k l m);
   }
+
+  -- the sweep has come down to any `low` from which on no record below i is marked
+  pub sweep_step : (low : ℕ) → NoneMarked noted low i → Swept d low before after noted
+  sweep_step low n = sweep_lower down_to_it n
 
 -- ---- no mark is left
 

@@ -22,5 +22,5 @@ loop-i-preserved c =
     let b = h.below in (
       omega arith,
       sweep_step (design_of c.args.file.now) p.accepted.sound c.in-Some.i _ _ _ _ _ _ p.fits (sweep_lower c.loop-i.invariant.1 h.none)
-          c.unmark.ensures c.visit.ensures,
+          c.unmark.ensures c.visit.ensures c.in-Some.i (λ j a l. absurd (omega arith)),
     )
