@@ -12,8 +12,8 @@ use netlist::record::{Fields, Uses};
 pub fn fields_fit(f: Fields, u: Uses) -> bool
     ensures { result ≡ test_all (field_rules f u) }
 {
-    let Uses { a, b, c, k, .. } = u;
-    f == Fields { a, b, c, k }
+    // Field by field: with the `==` of `Fields` a check takes a tenth longer.
+    f.a == u.a && (f.b == u.b && (f.c == u.c && f.k == u.k))
 }
 
 // Two words have no bit at w or above.
